@@ -1,0 +1,24 @@
+//! The outside world of the program: bytes that come, bytes that go, and counts of faults.
+//!
+//! A [`Source`] gives bytes and a [`Sink`] takes them. Each has a count of its faults, which never falls: a call
+//! fails only where the count rose. So a caller can tell a fault of the outside from one of its own.
+#![tactic(auto)]
+
+mod faults;
+mod memory;
+mod sink;
+mod source;
+mod standard;
+mod sure;
+mod words;
+
+pub use faults::{Failed, NoMemory};
+pub use memory::{MemorySink, MemorySource};
+pub use sink::{Sink, WriteFault, write_whole};
+pub use source::{ReadEnd, Source, read_up_to};
+pub use standard::{StandardInput, StandardOutput};
+pub use sure::{SureSink, SureSource};
+pub use words::Words;
+
+#[cfg(test)]
+mod tests;
