@@ -1,0 +1,76 @@
+-- What names an entity, and what an edit says of it.
+use Rattle.std.specs.Prelude.{ℕ, ◌+◌, Bool, true, false, ◌&&◌, List, [], length}
+use Rattle.std.specs.Str.{bytes_eq}
+use Rattle.client_tags.specs.declared.Kind.{Kind}
+use Rattle.client_tags.specs.declared.Kind.TheVariants.{Nigori, Preference, Password}
+use Rattle.client_tags.specs.Tags.{password_tag, nigori_tag}
+use Rattle.sync_specifics.specs.declared.value.NigoriValue.{NigoriValue}
+use Rattle.sync_specifics.specs.declared.value.Value.{Value}
+use Rattle.sync_specifics.specs.declared.value.Value.TheVariants.{Absent, Preference as Setting_value, Password as Login_value, Nigori as Keys_value}
+use Rattle.sync_specifics.specs.declared.edit.Edit.{Edit}
+use Rattle.sync_specifics.specs.declared.edit.Edit.TheVariants.{SetPreference, DeletePreference, SetPassword, DeletePassword, SetNigori}
+use Rattle.sync_model.specs.declared.message.Key.{Key}
+use Rattle.sync_model.specs.Text.{text_word}
+
+-- What a run is given: how the tags of a type are hashed, and how a hash, the key that seals a value, and
+-- the keys of a profile are shown.
+pub record Setting : Type 0 where
+  pub tag_hash : Kind → List ℕ → List ℕ
+  pub hash_text : List ℕ → List ℕ
+  pub pass_text : List ℕ → List ℕ
+  pub keys_text : NigoriValue → List ℕ
+
+-- Tags stand in place of their hashes, and are shown as words. There are no keys to show yet.
+unfoldable pub names : Setting
+names = record { tag_hash = λ kind tag. tag; hash_text = text_word; pass_text = λ name. []; keys_text = λ keys. [] }
+
+-- two types are one
+abbrev pub same_kind : Kind → Kind → Bool
+same_kind Nigori Nigori = true
+same_kind Nigori Preference = false
+same_kind Nigori Password = false
+same_kind Preference Nigori = false
+same_kind Preference Preference = true
+same_kind Preference Password = false
+same_kind Password Nigori = false
+same_kind Password Preference = false
+same_kind Password Password = true
+
+-- two keys are one
+abbrev pub same_key : Key → Key → Bool
+same_key a b = same_kind a.kind b.kind && bytes_eq a.hash b.hash
+
+-- the type that an edit changes
+abbrev pub edit_kind : Edit → Kind
+edit_kind (SetPreference preference) = Preference
+edit_kind (DeletePreference name) = Preference
+edit_kind (SetPassword password) = Password
+edit_kind (DeletePassword origin user_element user_value pass_element realm) = Password
+edit_kind (SetNigori nigori) = Nigori
+
+-- the client tag of what an edit changes
+abbrev pub edit_tag : Edit → List ℕ
+edit_tag (SetPreference preference) = preference.name
+edit_tag (DeletePreference name) = name
+edit_tag (SetPassword p) = password_tag p.origin p.user_element p.user_value p.pass_element p.realm
+edit_tag (DeletePassword origin user_element user_value pass_element realm) =
+    password_tag origin user_element user_value pass_element realm
+edit_tag (SetNigori nigori) = nigori_tag
+
+-- what an edit makes of it
+abbrev pub edit_value : Edit → Value
+edit_value (SetPreference preference) = Setting_value preference
+edit_value (DeletePreference name) = Absent
+edit_value (SetPassword password) = Login_value password
+edit_value (DeletePassword origin user_element user_value pass_element realm) = Absent
+edit_value (SetNigori nigori) = Keys_value nigori
+
+-- how many bytes the texts of an edit have
+abbrev pub edit_length : Edit → ℕ
+edit_length (SetPreference preference) = length preference.name + length preference.value
+edit_length (DeletePreference name) = length name
+edit_length (SetPassword p) =
+    length p.origin + length p.user_element + length p.user_value + length p.pass_element + length p.realm + length p.secret
+edit_length (DeletePassword origin user_element user_value pass_element realm) =
+    length origin + length user_element + length user_value + length pass_element + length realm
+edit_length (SetNigori nigori) = length nigori.lock

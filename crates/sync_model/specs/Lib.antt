@@ -1,0 +1,10 @@
+pub mod Text
+pub mod Keys
+pub mod History
+pub mod KeyStates
+pub mod Sides
+pub mod Clients
+pub mod Worlds
+pub mod Fates
+pub mod Report
+pub mod Laws

@@ -1,0 +1,195 @@
+-- The report of a world: what the server and each client hold, and the fate of each edit, a line each.
+use Rattle.std.specs.Prelude.{ℕ, ◌+◌, Bool, true, false, ◌&&◌, ◌==◌, if◌then◌else◌, List, [], ◌∷◌, ◌++◌, length, count_by, codes, Option, Some, None}
+use Rattle.std.specs.List.{flat_map}
+use Rattle.std.specs.Fmt.{decimal, signed_decimal}
+use Rattle.client_tags.specs.declared.Kind.{Kind}
+use Rattle.client_tags.specs.declared.Kind.TheVariants.{Nigori, Preference, Password}
+use Rattle.sync_specifics.specs.declared.value.Password.{Password as Login}
+use Rattle.sync_specifics.specs.declared.value.Preference.{Preference as Pref}
+use Rattle.sync_specifics.specs.declared.value.Value.{Value}
+use Rattle.sync_specifics.specs.declared.value.Value.TheVariants.{Absent, Preference as Setting_value, Password as Login_value, Nigori as Keys_value}
+use Rattle.sync_model.specs.declared.event.EventOutcome.{EventOutcome}
+use Rattle.sync_model.specs.declared.event.EventOutcome.TheVariants.{Void, Done, Edited, Requested, Delivered}
+use Rattle.sync_model.specs.declared.fate.Fate.{Fate}
+use Rattle.sync_model.specs.declared.fate.Fate.TheVariants.{Followed, Committed}
+use Rattle.sync_model.specs.declared.message.Content.{Content}
+use Rattle.sync_model.specs.declared.message.Entry.{Entry}
+use Rattle.sync_model.specs.Text.{text_word, kind_word}
+use Rattle.sync_model.specs.Keys.{Setting}
+use Rattle.sync_model.specs.History.{last_version, key_count}
+use Rattle.sync_model.specs.declared.state.KeyState.{KeyState}
+use Rattle.sync_model.specs.Sides.{Side, States, due_count, is_caught_up}
+use Rattle.sync_model.specs.Clients.{Client, side_of}
+use Rattle.sync_model.specs.Fates.{fate_of, edits_made}
+use Rattle.sync_model.specs.Worlds.{World}
+
+-- an event was void
+abbrev pub is_void : EventOutcome → Bool
+is_void Void = true
+is_void Done = false
+is_void (Edited client kind number) = false
+is_void (Requested client entries) = false
+is_void (Delivered request answers) = false
+
+-- an event made a request
+abbrev pub is_request : EventOutcome → Bool
+is_request (Requested client entries) = true
+is_request Void = false
+is_request Done = false
+is_request (Edited client kind number) = false
+is_request (Delivered request answers) = false
+
+-- an event was a delivery
+abbrev pub is_delivery : EventOutcome → Bool
+is_delivery (Delivered request answers) = true
+is_delivery Void = false
+is_delivery Done = false
+is_delivery (Edited client kind number) = false
+is_delivery (Requested client entries) = false
+
+-- a number of events, and how many of them were void
+unfoldable pub events_text : ℕ → ℕ → List ℕ
+events_text events void = codes "events " ++ decimal events ++ codes " void " ++ decimal void ++ 10 ∷ []
+
+-- how many events there were, and how many of them were void
+abbrev pub events_line : List EventOutcome → List ℕ
+events_line outcomes = events_text (length outcomes) (count_by is_void outcomes)
+
+-- a version, and a number of keys
+unfoldable pub server_text : ℕ → ℕ → List ℕ
+server_text version keys = codes "server version " ++ decimal version ++ codes " keys " ++ decimal keys ++ 10 ∷ []
+
+-- the server's version, and how many keys it has, those of tombstones too
+abbrev pub server_line : List (Entry Content) → List ℕ
+server_line history = server_text (length history) (key_count history)
+
+-- the name of a preference and its value
+abbrev pub preference_text : Pref → List ℕ
+preference_text preference = text_word preference.name ++ 32 ∷ text_word preference.value
+
+-- the seven words of a login
+abbrev pub password_text : Login → List ℕ
+password_text p =
+    text_word p.origin ++ 32 ∷ text_word p.user_element ++ 32 ∷ text_word p.user_value ++ 32 ∷ text_word p.pass_element
+    ++ 32 ∷ text_word p.realm ++ 32 ∷ text_word p.secret ++ 32 ∷ signed_decimal p.created
+
+-- a value
+unfoldable pub value_text : Setting → Value → List ℕ
+value_text setting Absent = codes "absent"
+value_text setting (Setting_value preference) = preference_text preference
+value_text setting (Login_value password) = password_text password
+value_text setting (Keys_value keys) = setting.keys_text keys
+
+-- what seals a write
+unfoldable pub lock_text : Setting → Option (List ℕ) → List ℕ
+lock_text setting None = codes "plain"
+lock_text setting (Some name) = codes "pass " ++ setting.pass_text name
+
+-- a write that is the last of its key
+unfoldable pub entity_line : Setting → ℕ → Entry Content → List ℕ
+entity_line setting version write =
+    codes "entity " ++ decimal version ++ 32 ∷ kind_word write.key.kind ++ 32 ∷ setting.hash_text write.key.hash
+    ++ 32 ∷ lock_text setting write.content.lock ++ 32 ∷ value_text setting write.content.value ++ 10 ∷ []
+
+-- the line of a write, if the whole history has no later one of its key
+abbrev pub entity_text : Setting → List (Entry Content) → ℕ → Entry Content → List ℕ
+entity_text setting whole version write =
+    if last_version whole write.key == version then entity_line setting version write else []
+
+-- the last writes of their keys among the oldest part of a history, by ascending version
+unfoldable pub entity_lines : Setting → List (Entry Content) → List (Entry Content) → List ℕ
+entity_lines setting whole [] = []
+entity_lines setting whole (write ∷ older) =
+    entity_lines setting whole older ++ entity_text setting whole (length older + 1) write
+
+-- a client has all that the server has, and nothing waits
+abbrev pub is_client_caught_up : ℕ → Client → Bool
+is_client_caught_up version client =
+    is_caught_up version client.nigori && is_caught_up version client.preference && is_caught_up version client.password
+
+-- a client by its number, and whether it is caught up
+unfoldable pub client_text : ℕ → Bool → List ℕ
+client_text number caught_up =
+    codes "client " ++ decimal number ++ (if caught_up then codes " caught-up" else codes " behind") ++ 10 ∷ []
+
+-- whether a client is caught up
+abbrev pub client_line : ℕ → ℕ → Client → List ℕ
+client_line version number client = client_text number (is_client_caught_up version client)
+
+-- A type of a client, a mark, and how many keys are due and how many tasks wait. No key seals anything yet,
+-- and no batch waits for one.
+unfoldable pub side_text : ℕ → Kind → ℕ → ℕ → ℕ → List ℕ
+side_text number kind mark due mailbox =
+    codes "side " ++ decimal number ++ 32 ∷ kind_word kind ++ codes " mark " ++ decimal mark ++ codes " due "
+    ++ decimal due ++ codes " reseal 0 pending 0 mailbox " ++ decimal mailbox ++ 10 ∷ []
+
+-- the mark of a side, how many keys are due, and how many tasks wait
+abbrev pub side_line : ℕ → Kind → Side → List ℕ
+side_line number kind side = side_text number kind side.mark (due_count side.states) (length side.mailbox)
+
+-- a key of a client, the version that the client knows of it, and the client's value
+unfoldable pub value_line_text : Setting → ℕ → Kind → List ℕ → ℕ → Value → List ℕ
+value_line_text setting number kind hash known own =
+    codes "value " ++ decimal number ++ 32 ∷ kind_word kind ++ 32 ∷ setting.hash_text hash ++ codes " known "
+    ++ decimal known ++ 32 ∷ value_text setting own ++ 10 ∷ []
+
+-- what a client has of a key
+abbrev pub value_line : Setting → ℕ → Kind → List ℕ → KeyState → List ℕ
+value_line setting number kind hash state = value_line_text setting number kind hash state.known state.own
+
+-- what a client has of each key of a type, by ascending hash
+abbrev pub value_lines : Setting → ℕ → Kind → States → List ℕ
+value_lines setting number kind states = flat_map (λ entry. value_line setting number kind entry.0 entry.1) states
+
+-- what became of an edit
+unfoldable pub fate_text : Option Fate → List ℕ
+fate_text None = codes "stands"
+fate_text (Some (Followed later)) = codes "followed " ++ decimal later
+fate_text (Some (Committed version)) = codes "committed " ++ decimal version
+
+-- the fate of an edit
+unfoldable pub fate_line : ℕ → Kind → ℕ → Option Fate → List ℕ
+fate_line client kind number fate =
+    codes "fate " ++ decimal client ++ 32 ∷ kind_word kind ++ 32 ∷ decimal number ++ 32 ∷ fate_text fate ++ 10 ∷ []
+
+-- the fates of a client's acknowledged edits of a type, by their numbers
+abbrev pub fate_lines : World → ℕ → Kind → List ℕ
+fate_lines world client kind =
+    flat_map (λ number. fate_line client kind number (fate_of world.settlements client kind number))
+    (edits_made client kind world.outcomes)
+
+-- one text for each type, in their order
+abbrev pub for_each_kind : (Kind → List ℕ) → List ℕ
+for_each_kind text = text Nigori ++ text Preference ++ text Password
+
+-- all lines of a client
+unfoldable pub client_lines : Setting → World → ℕ → Client → List ℕ
+client_lines setting world number client =
+    client_line (length world.history) number client
+    ++ for_each_kind (λ kind. side_line number kind (side_of client kind))
+    ++ for_each_kind (λ kind. value_lines setting number kind (side_of client kind).states)
+    ++ for_each_kind (λ kind. fate_lines world number kind)
+
+-- all lines of some clients, which are numbered from this number on
+unfoldable pub clients_lines : Setting → World → ℕ → List Client → List ℕ
+clients_lines setting world number [] = []
+clients_lines setting world number (client ∷ clients) =
+    client_lines setting world number client ++ clients_lines setting world (number + 1) clients
+
+-- a number of requests, and a number of deliveries
+unfoldable pub totals_text : ℕ → ℕ → List ℕ
+totals_text requests deliveries =
+    codes "requests " ++ decimal requests ++ codes " deliveries " ++ decimal deliveries ++ 10 ∷ []
+
+-- how many requests were made, and how many deliveries
+abbrev pub totals_line : List EventOutcome → List ℕ
+totals_line outcomes = totals_text (count_by is_request outcomes) (count_by is_delivery outcomes)
+
+-- the report of a world
+unfoldable pub report : Setting → World → List ℕ
+report setting world =
+    events_line world.outcomes
+    ++ server_line world.history
+    ++ entity_lines setting world.history world.history
+    ++ clients_lines setting world 1 world.clients
+    ++ totals_line world.outcomes

@@ -1,0 +1,19 @@
+use sync_specifics::Value;
+use wire_fields::Octets;
+
+/// What a client knows of one key.
+#[derive(Debug, Drop)]
+pub struct KeyState {
+    /// The version of the server's that the client knows, 0 for none.
+    pub known: u64,
+    /// The value of that version.
+    pub base: Value,
+    /// The client's own value.
+    pub own: Value,
+    /// The number of the edit that the server lacks, if any.
+    pub due: Option<u64>,
+    /// The number of the last edit of the key, 0 for none.
+    pub last_edit: u64,
+    /// The name of the key that seals what the server has.
+    pub lock: Option<Octets>,
+}
