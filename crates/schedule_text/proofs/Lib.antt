@@ -1,0 +1,10 @@
+pub mod Cuts
+pub mod Escapes
+pub mod Numerals
+pub mod Fronts
+pub mod EventWords
+pub mod LineEnds
+pub mod OneEvent
+pub mod OneCutting
+pub mod TheLaws
+pub mod Refusing

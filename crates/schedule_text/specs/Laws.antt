@@ -1,0 +1,22 @@
+-- What holds of texts: none spells two schedules, none is refused twice, and none does both.
+use Rattle.std.specs.Prelude.{◌≡◌, ℕ, List}
+use Rattle.sync_model.specs.declared.event.Schedule.{Schedule}
+use Rattle.schedule_text.specs.declared.fault.LineReason.{LineReason}
+use Rattle.schedule_text.specs.Spelling.{Spells}
+use Rattle.schedule_text.specs.Refusals.{IsRefused}
+
+-- a text spells at most one schedule
+abbrev pub SpellsOneSchedule : Type 0
+SpellsOneSchedule = (text : List ℕ) (one other : Schedule) → Spells text one → Spells text other → one ≡ other
+
+-- a text is refused at most at one line, for one reason
+abbrev pub RefusesOneLine : Type 0
+RefusesOneLine =
+    (text : List ℕ) (line other_line : ℕ) (reason other_reason : LineReason) → IsRefused text line reason
+    → IsRefused text other_line other_reason → (line ≡ other_line) × (reason ≡ other_reason)
+
+-- a text that spells a schedule is not refused
+abbrev pub RefusesNoSchedule : Type 0
+RefusesNoSchedule =
+    (text : List ℕ) (schedule : Schedule) (line : ℕ) (reason : LineReason) → Spells text schedule
+    → IsRefused text line reason → ⊥

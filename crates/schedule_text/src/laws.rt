@@ -1,0 +1,18 @@
+//! What holds of texts, whoever reads them.
+
+ghost use Rattle.schedule_text.specs.Laws.{SpellsOneSchedule, RefusesOneLine, RefusesNoSchedule};
+
+/// A text spells at most one schedule.
+pub fn spells_one_schedule()
+    ensures { SpellsOneSchedule }
+{}
+
+/// A text is refused at most at one line, for one reason.
+pub fn refuses_one_line()
+    ensures { RefusesOneLine }
+{}
+
+/// A text that spells a schedule is not refused.
+pub fn refuses_no_schedule()
+    ensures { RefusesNoSchedule }
+{}
