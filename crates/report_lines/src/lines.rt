@@ -1,0 +1,231 @@
+ghost use Rattle.std.specs.Prelude.{◌≡◌, [], ◌∷◌, ◌++◌, OnOk, OnErr};
+ghost use Rattle.std.specs.Fmt.{decimal};
+ghost use Rattle.sync_model.specs.Text.{kind_word};
+ghost use Rattle.sync_model.specs.Keys.{names};
+ghost use Rattle.sync_model.specs.Report.{value_text, events_text, server_text, entity_line, client_text, side_text, value_line_text, fate_text, fate_line, totals_text};
+ghost use Rattle.report_lines.specs.Continued.{Continues};
+
+use crate::pieces::{Piece, write_pieces};
+use crate::values::{lock_name, write_value};
+use crate::words::{kind_name, write_text};
+use sync_model::{Content, Entry, Fate, Kind, Value};
+use wire_fields::NoMemory;
+
+/// What the lines of a client's type begin with.
+fn write_owner(out: &mut Vec<u8>, subject: &[u8], client: u32, kind: Kind) -> Result<(), NoMemory>
+    ensures ok { OnOk result (out.new.items ≡
+        out.old.items ++ subject.now ++ decimal client ++ 32 ∷ kind_word kind) }
+    ensures err { OnErr result (Continues out.old.items out.new.items) }
+{
+    write_pieces(
+        out,
+        &[
+            Piece::Text(subject),
+            Piece::Number(u64::from(client)),
+            Piece::Text(b" "),
+            Piece::Text(kind_name(kind)),
+        ],
+    )
+}
+
+/// A value as the last words of a line, and the line's end.
+#[tactic(auto, using(crate::proofs::Continuing::continues_after))]
+fn write_last_value(out: &mut Vec<u8>, value: &Value) -> Result<(), NoMemory>
+    ensures ok { OnOk result (out.new.items ≡ out.old.items ++ 32 ∷ value_text names value.now ++ 10 ∷ []) }
+    ensures err { OnErr result (Continues out.old.items out.new.items) }
+{
+    write_text(out, b" ")?;
+    write_value(out, value)?;
+    write_text(out, b"\n")
+}
+
+/// How many events there were, and how many of them were void.
+#[tactic(auto, unfolding(sync_model::specs::Report::events_text))]
+pub fn write_events_line(out: &mut Vec<u8>, events: u64, void: u64) -> Result<(), NoMemory>
+    ensures ok { OnOk result (out.new.items ≡ out.old.items ++ events_text events void) }
+    ensures err { OnErr result (Continues out.old.items out.new.items) }
+{
+    write_pieces(
+        out,
+        &[
+            Piece::Text(b"events "),
+            Piece::Number(events),
+            Piece::Text(b" void "),
+            Piece::Number(void),
+            Piece::Text(b"\n"),
+        ],
+    )
+}
+
+/// The server's version, and how many keys it has.
+#[tactic(auto, unfolding(sync_model::specs::Report::server_text))]
+pub fn write_server_line(out: &mut Vec<u8>, version: u64, keys: u64) -> Result<(), NoMemory>
+    ensures ok { OnOk result (out.new.items ≡ out.old.items ++ server_text version keys) }
+    ensures err { OnErr result (Continues out.old.items out.new.items) }
+{
+    write_pieces(
+        out,
+        &[
+            Piece::Text(b"server version "),
+            Piece::Number(version),
+            Piece::Text(b" keys "),
+            Piece::Number(keys),
+            Piece::Text(b"\n"),
+        ],
+    )
+}
+
+/// A write of this version, in time linear in its texts.
+#[tactic(auto, using(crate::proofs::Continuing::continues_after), unfolding(sync_model::specs::Report::entity_line, sync_model::specs::Keys::names))]
+pub fn write_entity_line(
+    out: &mut Vec<u8>,
+    version: u64,
+    write: &Entry<Content>,
+) -> Result<(), NoMemory>
+    ensures ok { OnOk result (out.new.items ≡ out.old.items ++ entity_line names version write.now) }
+    ensures err { OnErr result (Continues out.old.items out.new.items) }
+{
+    write_pieces(
+        out,
+        &[
+            Piece::Text(b"entity "),
+            Piece::Number(version),
+            Piece::Text(b" "),
+            Piece::Text(kind_name(write.key.kind)),
+            Piece::Text(b" "),
+            Piece::Word(write.key.hash.as_slice()),
+            Piece::Text(b" "),
+            Piece::Text(lock_name(&write.content.lock)),
+        ],
+    )?;
+    write_last_value(out, &write.content.value)
+}
+
+/// Whether a client is caught up.
+#[tactic(auto, unfolding(sync_model::specs::Report::client_text))]
+pub fn write_client_line(out: &mut Vec<u8>, number: u32, caught_up: bool) -> Result<(), NoMemory>
+    ensures ok { OnOk result (out.new.items ≡ out.old.items ++ client_text number caught_up) }
+    ensures err { OnErr result (Continues out.old.items out.new.items) }
+{
+    let state: &[u8] = if caught_up { b" caught-up" } else { b" behind" };
+    write_pieces(
+        out,
+        &[
+            Piece::Text(b"client "),
+            Piece::Number(u64::from(number)),
+            Piece::Text(state),
+            Piece::Text(b"\n"),
+        ],
+    )
+}
+
+/// The mark of a client's side of a type, how many keys are due, and how many tasks wait.
+#[tactic(auto, using(crate::proofs::Continuing::continues_after), unfolding(sync_model::specs::Report::side_text))]
+pub fn write_side_line(
+    out: &mut Vec<u8>,
+    number: u32,
+    kind: Kind,
+    mark: u64,
+    due: u64,
+    mailbox: u64,
+) -> Result<(), NoMemory>
+    ensures ok { OnOk result (out.new.items ≡ out.old.items ++ side_text number kind mark due mailbox) }
+    ensures err { OnErr result (Continues out.old.items out.new.items) }
+{
+    write_owner(out, b"side ", number, kind)?;
+    write_pieces(
+        out,
+        &[
+            Piece::Text(b" mark "),
+            Piece::Number(mark),
+            Piece::Text(b" due "),
+            Piece::Number(due),
+            Piece::Text(b" reseal 0 pending 0 mailbox "),
+            Piece::Number(mailbox),
+            Piece::Text(b"\n"),
+        ],
+    )
+}
+
+/// What a client has of a key: the version that it knows, and its value. It takes time linear in the
+/// texts.
+#[tactic(auto, using(crate::proofs::Continuing::continues_after), unfolding(sync_model::specs::Report::value_line_text, sync_model::specs::Keys::names))]
+pub fn write_value_line(
+    out: &mut Vec<u8>,
+    number: u32,
+    kind: Kind,
+    hash: &[u8],
+    known: u64,
+    own: &Value,
+) -> Result<(), NoMemory>
+    ensures ok { OnOk result (out.new.items ≡
+        out.old.items ++ value_line_text names number kind hash.now known own.now) }
+    ensures err { OnErr result (Continues out.old.items out.new.items) }
+{
+    write_owner(out, b"value ", number, kind)?;
+    write_pieces(
+        out,
+        &[
+            Piece::Text(b" "),
+            Piece::Word(hash),
+            Piece::Text(b" known "),
+            Piece::Number(known),
+        ],
+    )?;
+    write_last_value(out, own)
+}
+
+#[tactic(auto, unfolding(sync_model::specs::Report::fate_text))]
+fn write_fate(out: &mut Vec<u8>, fate: Option<Fate>) -> Result<(), NoMemory>
+    ensures ok { OnOk result (out.new.items ≡ out.old.items ++ fate_text fate) }
+    ensures err { OnErr result (Continues out.old.items out.new.items) }
+{
+    match fate {
+        None => write_text(out, b"stands"),
+        Some(Fate::Followed(later)) => {
+            write_pieces(out, &[Piece::Text(b"followed "), Piece::Number(later)])
+        }
+        Some(Fate::Committed(version)) => {
+            write_pieces(out, &[Piece::Text(b"committed "), Piece::Number(version)])
+        }
+    }
+}
+
+/// What became of a client's edit, by the number that counts the client's edits of the type.
+#[tactic(auto, using(crate::proofs::Continuing::continues_after), unfolding(sync_model::specs::Report::fate_line))]
+pub fn write_fate_line(
+    out: &mut Vec<u8>,
+    client: u32,
+    kind: Kind,
+    edit: u64,
+    fate: Option<Fate>,
+) -> Result<(), NoMemory>
+    ensures ok { OnOk result (out.new.items ≡ out.old.items ++ fate_line client kind edit fate) }
+    ensures err { OnErr result (Continues out.old.items out.new.items) }
+{
+    write_owner(out, b"fate ", client, kind)?;
+    write_pieces(
+        out,
+        &[Piece::Text(b" "), Piece::Number(edit), Piece::Text(b" ")],
+    )?;
+    write_fate(out, fate)?;
+    write_text(out, b"\n")
+}
+
+/// How many requests were made, and how many deliveries.
+#[tactic(auto, unfolding(sync_model::specs::Report::totals_text))]
+pub fn write_totals_line(out: &mut Vec<u8>, requests: u64, deliveries: u64) -> Result<(), NoMemory>
+    ensures ok { OnOk result (out.new.items ≡ out.old.items ++ totals_text requests deliveries) }
+    ensures err { OnErr result (Continues out.old.items out.new.items) }
+{
+    write_pieces(
+        out,
+        &[
+            Piece::Text(b"requests "),
+            Piece::Number(requests),
+            Piece::Text(b" deliveries "),
+            Piece::Number(deliveries),
+            Piece::Text(b"\n"),
+        ],
+    )
+}

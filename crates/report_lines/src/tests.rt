@@ -1,0 +1,116 @@
+use super::*;
+use std::alloc::Global;
+use std::test::Fail;
+use sync_model::{Content, Entry, Fate, Key, Kind, Value};
+use sync_specifics::{Password, Preference};
+use wire_fields::{NoMemory, Octets};
+
+#[test]
+fn words(rt: HostRuntime) -> Result<(), Fail> {
+    let cases: [(&[u8], &[u8]); 8] = [
+        (b"", b"-"),
+        (b"-", b"%2D"),
+        (b"--", b"--"),
+        (b"a b", b"a%20b"),
+        (b"\xC3\xA9", b"%C3%A9"),
+        (b"%", b"%25"),
+        (b"~", b"~"),
+        (b"\x7F", b"%7F"),
+    ];
+    for (text, word) in cases {
+        let mut out = Vec::new(rt.alloc());
+        write_word(&mut out, text)?;
+        assert_eq!(rt; out.as_slice(), word);
+    }
+    Ok(())
+}
+
+#[test]
+fn lines_of_numbers(rt: HostRuntime) -> Result<(), Fail> {
+    let mut out = Vec::new(rt.alloc());
+    write_events_line(&mut out, 8, 0)?;
+    write_server_line(&mut out, 1, 1)?;
+    write_client_line(&mut out, 1, false)?;
+    write_client_line(&mut out, 2, true)?;
+    write_side_line(&mut out, 1, Kind::Nigori, 0, 0, 0)?;
+    write_totals_line(&mut out, 1, 2)?;
+    assert_eq!(rt;
+        out.as_slice(),
+        b"events 8 void 0\nserver version 1 keys 1\nclient 1 behind\nclient 2 caught-up\n\
+          side 1 nigori mark 0 due 0 reseal 0 pending 0 mailbox 0\nrequests 1 deliveries 2\n"
+            .as_slice()
+    );
+    Ok(())
+}
+
+#[test]
+fn lines_of_fates(rt: HostRuntime) -> Result<(), Fail> {
+    let mut out = Vec::new(rt.alloc());
+    write_fate_line(&mut out, 1, Kind::Preference, 1, Some(Fate::Committed(1)))?;
+    write_fate_line(&mut out, 1, Kind::Preference, 1, None)?;
+    write_fate_line(&mut out, 1, Kind::Preference, 3, Some(Fate::Followed(4)))?;
+    assert_eq!(rt;
+        out.as_slice(),
+        b"fate 1 preference 1 committed 1\nfate 1 preference 1 stands\n\
+          fate 1 preference 3 followed 4\n"
+            .as_slice()
+    );
+    Ok(())
+}
+
+fn preference(alloc: Global) -> Result<Value, NoMemory> {
+    Ok(Value::Preference(Preference {
+        name: Octets::from_slice(alloc, b"a")?,
+        value: Octets::from_slice(alloc, b"1")?,
+    }))
+}
+
+#[test]
+fn lines_of_values(rt: HostRuntime) -> Result<(), Fail> {
+    let write = Entry {
+        key: Key {
+            kind: Kind::Preference,
+            hash: Octets::from_slice(rt.alloc(), b"a")?,
+        },
+        version: 0,
+        content: Content {
+            value: preference(rt.alloc())?,
+            number: 1,
+            lock: None,
+        },
+    };
+    let mut out = Vec::new(rt.alloc());
+    write_entity_line(&mut out, 1, &write)?;
+    write_value_line(&mut out, 1, Kind::Preference, b"a", 1, &write.content.value)?;
+    assert_eq!(rt;
+        out.as_slice(),
+        b"entity 1 preference a plain a 1\nvalue 1 preference a known 1 a 1\n".as_slice()
+    );
+    Ok(())
+}
+
+fn login(alloc: Global) -> Result<Value, NoMemory> {
+    Ok(Value::Password(Password {
+        origin: Octets::from_slice(alloc, b"https://a.example/")?,
+        user_element: Octets::from_slice(alloc, b"user")?,
+        user_value: Octets::from_slice(alloc, b"me")?,
+        pass_element: Octets::new(alloc),
+        realm: Octets::from_slice(alloc, b"a realm")?,
+        secret: Octets::from_slice(alloc, b"-")?,
+        created: -12,
+    }))
+}
+
+#[test]
+fn parts(rt: HostRuntime) -> Result<(), Fail> {
+    let mut out = Vec::new(rt.alloc());
+    write_value(&mut out, &login(rt.alloc())?)?;
+    write_lock(&mut out, &None)?;
+    write_number(&mut out, u64::MAX)?;
+    write_kind(&mut out, Kind::Password)?;
+    assert_eq!(rt;
+        out.as_slice(),
+        b"https://a.example/ user me - a%20realm %2D -12plain18446744073709551615password".as_slice()
+    );
+    Ok(())
+}
