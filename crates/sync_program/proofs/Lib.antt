@@ -1,0 +1,3 @@
+pub mod OneWord
+pub mod Stepping
+pub mod Causes
