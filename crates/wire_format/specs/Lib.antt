@@ -1,0 +1,6 @@
+pub mod Varints
+pub mod Fields
+pub mod Faults
+pub mod Tokens
+pub mod Groups
+pub mod Readers

@@ -1,0 +1,16 @@
+//! The wire format of Protocol Buffers: which bytes are a list of fields, and reading them one by one.
+#![tactic(auto)]
+
+mod fault;
+mod field;
+mod group;
+mod reader;
+mod token;
+mod varint;
+
+pub use fault::{WireFault, WireReason};
+pub use field::{Field, Payload};
+pub use reader::FieldReader;
+
+#[cfg(test)]
+mod tests;
