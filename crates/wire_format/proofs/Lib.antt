@@ -4,3 +4,7 @@ pub mod Nesting
 pub mod TokenLemmas
 pub mod GroupLemmas
 pub mod ReaderLemmas
+pub mod OneReading
+pub mod Walks
+pub mod Leading
+pub mod NoFault

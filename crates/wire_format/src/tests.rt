@@ -157,3 +157,8 @@ fn a_fault_is_told_again(rt: HostRuntime) -> Result<(), Fail> {
     }
     Ok(())
 }
+
+#[test]
+fn has_a_law() {
+    fields_have_no_fault();
+}
