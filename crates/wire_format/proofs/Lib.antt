@@ -1,4 +1,4 @@
-pub mod Groups
+pub mod SevenBitGroups
 pub mod VarintLemmas
 pub mod Nesting
 pub mod TokenLemmas

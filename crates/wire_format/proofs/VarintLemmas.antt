@@ -2,7 +2,7 @@
 use Rattle.std.proofs.Common.{◌≡◌, ℕ, ◌+◌, ◌<◌, ◌≤◌, List, ◌∷◌, ◌++◌, length, take, drop, get_or, refl, sym, ap, subst, ◌∙◌, arith}
 use Rattle.std.proofs.lemmas.List.{take-append-drop, take_more, drop_more, length-take-le}
 use Rattle.wire_format.specs.Varints.{GoOn, groups_value, IsVarint, IsLongVarint}
-use Rattle.wire_format.proofs.Groups.{varint_fits}
+use Rattle.wire_format.proofs.SevenBitGroups.{varint_fits}
 
 -- bytes in two parts, with one byte between them
 pub cut_around : (bytes : List ℕ) (place : ℕ) → place < length bytes →

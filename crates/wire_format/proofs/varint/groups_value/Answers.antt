@@ -1,5 +1,5 @@
 use Rattle.std.proofs.Common.{◌-◌, ◌%◌, refl, arith, get_or}
-use Rattle.wire_format.proofs.Groups.{groups_end, groups_next}
+use Rattle.wire_format.proofs.SevenBitGroups.{groups_end, groups_next}
 use Rattle.wire_format.proofs.varint.groups_value.Goals as goal
 
 pub loop-place-init : goal.loop-place-init
