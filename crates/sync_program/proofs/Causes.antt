@@ -86,29 +86,6 @@ refuses_from_cause one none TooBig r w line reason cause tells =
     let within : length tells.text ≤ MAX_TEXT = tells.within in
     omega arith
 
--- a told text that is too long is neither a schedule nor refused at a line
-pub refuses_length_from_cause : {S O : Type 0} (status : Status) (r : Reading S) (w : Writing O)
-    → HasCause status r w → TellsTooMuch (r.left r.before) → RefusesLength status r
-refuses_length_from_cause Ok r w cause tells =
-    let within : length tells.text ≤ MAX_TEXT =
-    within_told r cause.gave.text tells.text cause.gave.gave cause.gave.within tells.told in
-    let longer : MAX_TEXT < length tells.text = tells.is_longer in
-    omega arith
-refuses_length_from_cause Usage r w cause tells = cause
-refuses_length_from_cause BadSchedule r w cause tells =
-    let within : length tells.text ≤ MAX_TEXT =
-    within_told r cause.gave.text tells.text cause.gave.gave cause.gave.within tells.told in
-    let longer : MAX_TEXT < length tells.text = tells.is_longer in
-    omega arith
-refuses_length_from_cause ReadFault r w cause tells = cause.0
-refuses_length_from_cause WriteFault r w cause tells =
-    let within : length tells.text ≤ MAX_TEXT =
-    within_told r cause.gave.text tells.text cause.gave.gave cause.gave.within tells.told in
-    let longer : MAX_TEXT < length tells.text = tells.is_longer in
-    omega arith
-refuses_length_from_cause NoMemory r w cause tells = tt
-refuses_length_from_cause TooBig r w cause tells = tt
-
 -- where nothing outside failed, a schedule is reported, or memory was wanting
 pub completes_from_replays : {S O : Type 0} (status : Status) (r : Reading S) (w : Writing O) (schedule : Schedule)
     → Replays status r w schedule → (SourceFailed r → ⊥) → (SinkFailed w → ⊥) → IsOkOrNoMemory status

@@ -54,6 +54,7 @@ pub fn run_replay<S: Source, O: Sink>(alloc: Global, input: &mut S, output: &mut
     ensures reads_never_fall { NeverFalls (S.faults input.old) (S.faults input.new) }
     ensures writes_never_fall { NeverFalls (O.faults output.old) (O.faults output.new) }
 {
+    // The laws of texts, which these calls bring in as facts; they do nothing when they run.
     spells_one_schedule();
     refuses_one_line();
     refuses_no_schedule();

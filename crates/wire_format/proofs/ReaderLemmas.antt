@@ -2,25 +2,15 @@
 use Rattle.std.proofs.Common.{◌≡◌, ℕ, ◌+◌, ◌-◌, ◌<◌, ◌≤◌, List, [], ◌∷◌, Option, Some, length, take, drop, refl, ap, subst, ◌∙◌, arith}
 use Rattle.std.proofs.lemmas.List.{length-append, drop-take}
 use Rattle.wire_format.specs.declared.field.Payload.{Payload}
-use Rattle.wire_format.specs.declared.field.Payload.TheVariants.{Varint, Eight, Bytes, Group, Four}
 use Rattle.wire_format.specs.declared.fault.WireFault.{WireFault}
 use Rattle.wire_format.specs.declared.fault.WireReason.{WireReason}
 use Rattle.wire_format.specs.declared.fault.WireReason.TheVariants.{StrayEnd}
-use Rattle.wire_format.specs.Fields.{IsHeader, IsPlainField, IsField, MayFill}
+use Rattle.wire_format.specs.Fields.{IsHeader, IsField, MayFill}
 use Rattle.wire_format.specs.Faults.{IsInnermost, IsTokenFault, IsFault}
 use Rattle.wire_format.specs.Readers.{Reading, IsRead, IsFaulty}
 use Rattle.wire_format.proofs.Nesting.{no_fields}
 use Rattle.wire_format.proofs.TokenLemmas.{from_place}
 use Rattle.wire_format.proofs.GroupLemmas.{fault_at, token_fault, stray_here}
-
--- a field that is no group
-pub plain_is_field : (bytes : List ℕ) (number : ℕ) (payload : Payload) → IsPlainField bytes number payload →
-    IsField bytes number payload
-plain_is_field bytes number (Varint value) plain = plain
-plain_is_field bytes number (Eight value) plain = plain
-plain_is_field bytes number (Bytes content) plain = plain
-plain_is_field bytes number (Group content) plain = absurd plain.is_plain
-plain_is_field bytes number (Four value) plain = plain
 
 -- a fault of the first token
 pub first_fault : (bytes : List ℕ) (reason : WireReason) (place : ℕ) → 0 < length bytes → IsTokenFault bytes reason place →

@@ -1,8 +1,8 @@
 //! Reading a group to its end, without recursion.
 ghost use Rattle.std.specs.Prelude.{◌≡◌, ◌≤◌, length, take, drop, MatchResult};
-ghost use Rattle.wire_format.specs.Fields.{IsHeader, IsGroupOf, MayFill};
+ghost use Rattle.wire_format.specs.Fields.{IsHeader};
 ghost use Rattle.wire_format.specs.Faults.{IsFault};
-ghost use Rattle.wire_format.specs.Groups.{IsNested};
+ghost use Rattle.wire_format.specs.Groups.{IsNested, IsGroupEnd};
 ghost use Rattle.wire_format.specs.declared.token.Body as Body;
 
 use crate::fault::WireReason;
@@ -36,8 +36,7 @@ pub(crate) fn group_end(bytes: &[u8], group: u32, start: usize) -> Result<GroupE
     requires inside { start ≤ length bytes.now }
     requires is_start { IsHeader (take start bytes.now) group 3 }
     ensures { MatchResult result
-        (λ end. (end.len ≤ length bytes.now) × (start ≤ end.content) × (end.content ≤ end.len)
-        × IsGroupOf (MayFill 32) (take end.len bytes.now) group (drop start (take end.content bytes.now)))
+        (λ end. IsGroupEnd bytes.now group start end.content end.len)
         (λ fault. IsFault bytes.now fault.reason fault.place) }
 {
     let mut inner = InnerGroups::new();
