@@ -79,3 +79,52 @@ fn shows_that_memory_was_wanting(rt: HostRuntime) -> Result<(), Fail> {
     assert_eq!(rt; text.as_str(), "no memory");
     Ok(())
 }
+
+// The bytes of fields are worked out by hand from the wire format.
+#[test]
+fn varint_fields_are_the_shortest(rt: HostRuntime) -> Result<(), Fail> {
+    let mut writer = FieldWriter::new(rt.alloc());
+    writer.varint(1, 0)?;
+    writer.varint(15, 127)?;
+    writer.varint(16, 128)?;
+    writer.varint(536_870_911, u64::MAX)?;
+    let fields =
+        b"\x08\x00\x78\x7f\x80\x01\x80\x01\xf8\xff\xff\xff\x0f\xff\xff\xff\xff\xff\xff\xff\xff\xff\x01";
+    assert_eq!(rt; writer.finish().as_slice(), fields.as_slice());
+    Ok(())
+}
+
+#[test]
+fn bytes_fields_have_a_length(rt: HostRuntime) -> Result<(), Fail> {
+    let mut writer = FieldWriter::new(rt.alloc());
+    writer.bytes(2, b"testing")?;
+    writer.bytes(16, b"")?;
+    writer.bytes(1, &[7; 128])?;
+    let written = writer.finish();
+    let front = b"\x12\x07testing\x82\x01\x00\x0a\x80\x01\x07";
+    assert_eq!(rt; written.len(), 143);
+    assert_eq!(rt; &written.as_slice()[..16], front.as_slice());
+    Ok(())
+}
+
+#[test]
+fn a_group_stands_in_a_group(rt: HostRuntime) -> Result<(), Fail> {
+    let alloc = rt.alloc();
+    let mut field = FieldWriter::new(alloc);
+    field.varint(1, 1)?;
+    let mut inner = FieldWriter::new(alloc);
+    inner.group(2, field.finish().as_slice())?;
+    let mut outer = FieldWriter::new(alloc);
+    outer.group(1, inner.finish().as_slice())?;
+    let written = outer.finish();
+    assert_eq!(rt; written.as_slice(), b"\x0b\x13\x08\x01\x14\x0c".as_slice());
+    let mut reader = FieldReader::new(written.as_slice());
+    let Ok(Some(field)) = reader.next() else {
+        return Err("a group was written".into());
+    };
+    let Payload::Group(content) = field.payload else {
+        return Err("the field is a group".into());
+    };
+    assert_eq!(rt; content, b"\x13\x08\x01\x14".as_slice());
+    Ok(())
+}

@@ -8,3 +8,4 @@ pub mod OneReading
 pub mod Walks
 pub mod Leading
 pub mod NoFault
+pub mod LeastGroups

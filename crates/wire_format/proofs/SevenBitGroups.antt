@@ -46,7 +46,7 @@ groups_next bytes place value group top some inside is_value is_group below =
     (same, omega (arith, same, groups_fit bytes (place - 1) top below))
 
 -- a number with so many groups put before it
-scaled : ℕ → ℕ → ℕ
+unfoldable pub scaled : ℕ → ℕ → ℕ
 scaled zero top = top
 scaled (suc count) top = 128 * scaled count top
 

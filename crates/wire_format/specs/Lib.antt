@@ -5,3 +5,4 @@ pub mod Laws
 pub mod Tokens
 pub mod Groups
 pub mod Readers
+pub mod Spellings

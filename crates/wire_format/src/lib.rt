@@ -6,6 +6,7 @@ mod field;
 mod group;
 mod laws;
 mod reader;
+mod spelling;
 mod token;
 mod varint;
 
@@ -13,6 +14,7 @@ pub use fault::{WireFault, WireReason};
 pub use field::{Field, Payload};
 pub use laws::fields_have_no_fault;
 pub use reader::FieldReader;
+pub use spelling::{spell_header, spell_varint, varint_len};
 
 #[cfg(test)]
 mod tests;

@@ -159,6 +159,27 @@ fn a_fault_is_told_again(rt: HostRuntime) -> Result<(), Fail> {
 }
 
 #[test]
+fn a_varint_has_one_byte_for_seven_bits(rt: HostRuntime) -> Result<(), Fail> {
+    let rows: [(u64, usize); 8] = [
+        (0, 1),
+        (127, 1),
+        (128, 2),
+        (16_383, 2),
+        (16_384, 3),
+        ((1 << 63) - 1, 9),
+        (1 << 63, 10),
+        (u64::MAX, 10),
+    ];
+    for (value, len) in rows {
+        assert_eq!(rt; varint_len(value), len);
+        assert_eq!(rt; spell_varint(value).len(), len);
+    }
+    assert_eq!(rt; spell_varint(150).as_slice(), b"\x96\x01".as_slice());
+    assert_eq!(rt; spell_header(1, 2).as_slice(), b"\x0a".as_slice());
+    Ok(())
+}
+
+#[test]
 fn has_a_law() {
     fields_have_no_fault();
 }
