@@ -25,7 +25,7 @@ more_groups more value large =
     ap (λ last. if last then value ∷ [] else (value % 128 + 128) ∷ least_groups more (value / 128)) (is_large value large)
 
 -- the last place has one group
-last_group : (value : ℕ) → least_groups zero value ≡ value ∷ []
+pub last_group : (value : ℕ) → least_groups zero value ≡ value ∷ []
 unfolding least_groups
 last_group value = refl
 

@@ -9,3 +9,4 @@ pub mod Walks
 pub mod Leading
 pub mod NoFault
 pub mod LeastGroups
+pub mod WrittenFields

@@ -1,9 +1,37 @@
 -- What holds of all bytes, by the definitions alone.
-use Rattle.std.specs.Prelude.{ℕ, List}
+use Rattle.std.specs.Prelude.{ℕ, ◌^◌, ◌<◌, ◌≤◌, List, length}
+use Rattle.std.specs.Borrow.{Bor}
+use Rattle.wire_format.specs.declared.field.Payload.TheVariants.{Varint, Bytes, Group}
 use Rattle.wire_format.specs.declared.fault.WireReason.{WireReason}
-use Rattle.wire_format.specs.Fields.{AreFields}
-use Rattle.wire_format.specs.Faults.{IsFault}
+use Rattle.wire_format.specs.Varints.{IsVarint}
+use Rattle.wire_format.specs.Fields.{MAX_NESTING, IsField, AreFields, MayFill}
+use Rattle.wire_format.specs.Faults.{IsNumber, IsFault}
+use Rattle.wire_format.specs.Spellings.{varint_of, varint_field, bytes_field, group_field}
 
 -- bytes that are fields have no fault
 abbrev pub FieldsHaveNoFault : Type 0
 FieldsHaveNoFault = (bytes : List ℕ) → (reason : WireReason) → (place : ℕ) → AreFields bytes → IsFault bytes reason place → ⊥
+
+-- the least varint of a number is one of its varints
+abbrev pub LeastVarintsAreVarints : Type 0
+LeastVarintsAreVarints = (value : ℕ) → value < 2 ^ 64 → IsVarint (varint_of value) value
+
+-- no varint of a number is shorter than its least one
+abbrev pub LeastVarintsAreShortest : Type 0
+LeastVarintsAreShortest = (bytes : List ℕ) → (value : ℕ) → IsVarint bytes value → length (varint_of value) ≤ length bytes
+
+-- a varint's field, as it is written, is that field
+abbrev pub VarintFieldsAreFields : Type 0
+VarintFieldsAreFields = (number value : ℕ) → IsNumber number → value < 2 ^ 64 → IsField (varint_field number value) number (Varint value)
+
+-- a field of bytes, as it is written, is that field
+abbrev pub BytesFieldsAreFields : Type 0
+BytesFieldsAreFields =
+    (number : ℕ) → (content : Bor (List ℕ)) → IsNumber number → length content.now < 2 ^ 64 →
+    IsField (bytes_field number content.now) number (Bytes content)
+
+-- a group, as it is written, is that group, where its content is fields that may stand in one
+abbrev pub GroupFieldsAreFields : Type 0
+GroupFieldsAreFields =
+    (number : ℕ) → (content : Bor (List ℕ)) → IsNumber number → MayFill MAX_NESTING content.now →
+    IsField (group_field number content.now) number (Group content)

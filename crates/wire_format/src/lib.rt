@@ -12,9 +12,11 @@ mod varint;
 
 pub use fault::{WireFault, WireReason};
 pub use field::{Field, Payload};
-pub use laws::fields_have_no_fault;
+pub use laws::{fields_have_no_fault, least_varints_are_shortest, written_fields_are_fields};
 pub use reader::FieldReader;
-pub use spelling::{spell_header, spell_varint, varint_len};
+pub use spelling::{
+    bytes_field_len, group_field_len, spell_header, spell_varint, varint_field_len, varint_len,
+};
 
 #[cfg(test)]
 mod tests;

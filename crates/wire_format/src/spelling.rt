@@ -1,6 +1,6 @@
-//! The spellings that a writer gives to numbers: of each the least one.
-ghost use Rattle.std.specs.Prelude.{◌≡◌, ◌+◌, ◌*◌, ◌<◌, ℕ, List, length};
-ghost use Rattle.wire_format.specs.Spellings.{varint_of, header_of};
+//! The spellings that a writer gives to numbers, of each the least one, and how long what it writes is.
+ghost use Rattle.std.specs.Prelude.{◌≡◌, ◌+◌, ◌^◌, ◌<◌, ◌≤◌, ℕ, List, length};
+ghost use Rattle.wire_format.specs.Spellings.{varint_of, header_of, varint_field, bytes_field, group_field};
 
 use arrayvec::ArrayVec;
 
@@ -28,7 +28,8 @@ pub fn spell_header(number: u32, kind: u8) -> ArrayVec<u8, 10>
 
 /// How many bytes the varint of least length of a number has.
 pub fn varint_len(value: u64) -> usize
-    ensures { result ≡ length (varint_of value) }
+    ensures is_length { result ≡ length (varint_of value) }
+    ensures at_most_ten { result ≤ 10 }
 {
     let mut rest = value;
     for len in 1..10 {
@@ -38,4 +39,35 @@ pub fn varint_len(value: u64) -> usize
         rest /= 128;
     }
     10
+}
+
+/// How many bytes a field has, as it is written, that holds this varint.
+pub fn varint_field_len(number: u32, value: u64) -> usize
+    ensures { result ≡ length (varint_field number value) }
+{
+    header_len(number, 0) + varint_len(value)
+}
+
+/// How many bytes a field has, as it is written, that holds so many bytes.
+pub fn bytes_field_len(number: u32, content_len: usize) -> usize
+    requires { content_len < 2 ^ 63 }
+    ensures { (content : List ℕ) → length content ≡ content_len → result ≡ length (bytes_field number content) }
+{
+    header_len(number, 2) + varint_len(content_len as u64) + content_len
+}
+
+/// How many bytes a group has, as it is written, whose content has so many.
+pub fn group_field_len(number: u32, content_len: usize) -> usize
+    requires { content_len < 2 ^ 63 }
+    ensures { (content : List ℕ) → length content ≡ content_len → result ≡ length (group_field number content) }
+{
+    header_len(number, 3) + content_len + header_len(number, 4)
+}
+
+fn header_len(number: u32, kind: u8) -> usize
+    requires { kind < 8 }
+    ensures is_length { result ≡ length (header_of number kind) }
+    ensures at_most_ten { result ≤ 10 }
+{
+    varint_len(u64::from(number) * 8 + u64::from(kind))
 }

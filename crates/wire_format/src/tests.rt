@@ -176,10 +176,15 @@ fn a_varint_has_one_byte_for_seven_bits(rt: HostRuntime) -> Result<(), Fail> {
     }
     assert_eq!(rt; spell_varint(150).as_slice(), b"\x96\x01".as_slice());
     assert_eq!(rt; spell_header(1, 2).as_slice(), b"\x0a".as_slice());
+    assert_eq!(rt; varint_field_len(16, 150), 4);
+    assert_eq!(rt; bytes_field_len(1, 128), 131);
+    assert_eq!(rt; group_field_len(16, 5), 9);
     Ok(())
 }
 
 #[test]
-fn has_a_law() {
+fn has_laws() {
     fields_have_no_fault();
+    least_varints_are_shortest();
+    written_fields_are_fields();
 }
