@@ -1,5 +1,6 @@
 -- A group and its content, token by token.
-use Rattle.std.proofs.Common.{◌≡◌, ℕ, ◌+◌, ◌-◌, ◌*◌, ◌<◌, ◌≤◌, List, [], ◌∷◌, ◌++◌, length, take, drop, refl, sym, ap, subst, ◌∙◌, arith}
+use Rattle.std.proofs.Common.{◌≡◌, ℕ, ◌+◌, ◌-◌, ◌*◌, ◌<◌, ◌≤◌, true, false, ◌==◌, List, [], ◌∷◌, ◌++◌, length, take, drop, refl, sym, ap, subst, ◌∙◌, arith}
+use Rattle.std.proofs.lemmas.Bool.Decides.{nat_tests}
 use Rattle.std.proofs.lemmas.List.{take-append-drop, length-take-le, length-drop, take-take, drop-append-le, length-append}
 use Rattle.std.proofs.Math.Seq.{take-add}
 use Rattle.wire_format.specs.declared.token.Body.{Body}
@@ -11,6 +12,7 @@ use Rattle.wire_format.specs.Fields.{IsHeader, IsGroupOf, MayFill}
 use Rattle.wire_format.specs.Faults.{AreOpen, HasHeader, IsNumber, IsInnermost, IsTokenFault, IsFaultWithin, IsFault}
 use Rattle.wire_format.specs.Tokens.{IsToken}
 use Rattle.wire_format.specs.Groups.{Nests}
+use Rattle.wire_format.proofs.OneReading.{cons_head, cons_tail}
 use Rattle.wire_format.proofs.Nesting.{no_fields, open_plain, open_start, open_end}
 use Rattle.wire_format.proofs.TokenLemmas.{from_place}
 
@@ -38,16 +40,77 @@ content_more bytes start at size starts inside =
     ∙ drop-append-le start (take at bytes) (take size (drop at bytes)) (omega (arith, length-take-le at bytes inside, starts))
 
 -- the groups that are open after a token
-pub nested : (room : ℕ) (body : Body) (number : ℕ) (old new content piece : List ℕ) → (length old < 31 → length old < room) →
-    Nests body number old new → IsToken piece number body → AreOpen room old content → AreOpen room new (content ++ piece)
-nested room (Plain payload) number old new content piece fits nests token are =
-    subst (λ numbers. AreOpen room numbers (content ++ piece)) (sym nests)
-    (open_plain room old content piece are (record { number = number; payload = payload; is_plain = token }))
-nested room Start number old new content piece fits nests token are =
-    subst (λ numbers. AreOpen room numbers (content ++ piece)) (sym nests.0)
-    (open_start room old content piece number are token (fits nests.1))
-nested room End number old new content piece fits nests token are =
-    open_end room new content piece number (subst (λ numbers. AreOpen room numbers content) nests are) token
+pub nested : (body : Body) (number : ℕ) (old new content piece : List ℕ) → Nests body number old new → IsToken piece number body →
+    AreOpen 32 old content → AreOpen 32 new (content ++ piece)
+nested (Plain payload) number old new content piece nests token are =
+    subst (λ numbers. AreOpen 32 numbers (content ++ piece)) (sym nests)
+    (open_plain 32 old content piece are (record { number = number; payload = payload; is_plain = token }))
+nested Start number old new content piece nests token are =
+    subst (λ numbers. AreOpen 32 numbers (content ++ piece)) (sym nests.0) (open_start 32 old content piece number are token nests.1)
+nested End number old new content piece nests token are =
+    open_end 32 new content piece number (subst (λ numbers. AreOpen 32 numbers content) nests are) token
+
+-- what the test for no open group tells
+pub is_some : (size : ℕ) → false ≡ (size == 0) → 0 < size
+is_some size test = grind (arith, nat_tests, test)
+
+pub is_none : (size : ℕ) → true ≡ (size == 0) → size ≡ 0
+is_none size test = grind (arith, nat_tests, test)
+
+-- a group is open, and in it these are, after this content
+pub record IsWithin (group : ℕ) (numbers content : List ℕ) : Type 0 where
+  pub inner : List ℕ
+  pub is_outermost : numbers ≡ group ∷ inner
+  pub are_open : AreOpen 31 inner content
+
+-- some group is open
+pub within_some : (group : ℕ) (numbers content : List ℕ) → IsWithin group numbers content → numbers ≡ [] → ⊥
+within_some group numbers content within none = omega (arith, ap length within.is_outermost, ap length none)
+
+-- the groups that are open after a token that leaves the outermost one open
+pub within_more : (group : ℕ) (body : Body) (number : ℕ) (old new content piece : List ℕ) → 0 < length new →
+    Nests body number old new → IsToken piece number body → IsWithin group old content → IsWithin group new (content ++ piece)
+within_more group (Plain payload) number old new content piece some nests token within = record {
+  inner = within.inner;
+  is_outermost = nests ∙ within.is_outermost;
+  are_open = open_plain 31 within.inner content piece within.are_open (record { number = number; payload = payload; is_plain = token });
+}
+within_more group Start number old new content piece some nests token within = record {
+  inner = within.inner ++ number ∷ [];
+  is_outermost = nests.0 ∙ ap (λ numbers. numbers ++ number ∷ []) within.is_outermost;
+  are_open = open_start 31 within.inner content piece number within.are_open token
+      (omega (arith, nests.1, ap length within.is_outermost));
+}
+within_more group End number old [] content piece some nests token within = absurd (omega (arith, some))
+within_more group End number old (first ∷ new) content piece some nests token within =
+    let same : group ∷ within.inner ≡ first ∷ (new ++ number ∷ []) = sym within.is_outermost ∙ nests in
+    record {
+      inner = new;
+      is_outermost = ap (λ outermost. outermost ∷ new) (sym (cons_head group first within.inner (new ++ number ∷ []) same));
+      are_open = open_end 31 new content piece number
+          (subst (λ numbers. AreOpen 31 numbers content) (cons_tail group first within.inner (new ++ number ∷ []) same) within.are_open)
+          token;
+    }
+
+-- a token that leaves no group open
+pub record IsEnd (group : ℕ) (piece content : List ℕ) : Type 0 where
+  pub is_header : IsHeader piece group 4
+  pub are_fields : AreOpen 31 [] content
+
+-- it ends the outermost one
+pub within_end : (group : ℕ) (body : Body) (number : ℕ) (old new content piece : List ℕ) → length new ≡ 0 →
+    Nests body number old new → IsToken piece number body → IsWithin group old content → IsEnd group piece content
+within_end group (Plain payload) number old new content piece none nests token within =
+    absurd (omega (arith, none, ap length nests, ap length within.is_outermost))
+within_end group Start number old new content piece none nests token within =
+    absurd (omega (arith, none, ap length nests.0, length-append old (number ∷ [])))
+within_end group End number old (first ∷ new) content piece none nests token within = absurd (omega (arith, none))
+within_end group End number old [] content piece none nests token within =
+    let same : group ∷ within.inner ≡ number ∷ [] = sym within.is_outermost ∙ nests in
+    record {
+      is_header = subst (λ numbered. IsHeader piece numbered 4) (sym (cons_head group number within.inner [] same)) token;
+      are_fields = subst (λ numbers. AreOpen 31 numbers content) (cons_tail group number within.inner [] same) within.are_open;
+    }
 
 -- what stands before a place in a group: its start, and its content so far
 up_to : (bytes : List ℕ) (start at : ℕ) → start ≤ at → at ≤ length bytes →
@@ -70,18 +133,24 @@ group_whole bytes start at size number starts inside is_start are is_end = recor
 }
 
 -- the open groups before a place in a group
-pub all_open : (bytes : List ℕ) (start at group : ℕ) (inner : List ℕ) → start ≤ at → at ≤ length bytes →
-    IsHeader (take start bytes) group 3 → AreOpen 31 inner (drop start (take at bytes)) →
-    AreOpen 32 (group ∷ inner) (take at bytes)
-all_open bytes start at group inner starts inside is_start are = record {
-  before = [];
-  start = take start bytes;
-  inside = drop start (take at bytes);
-  is_whole = up_to bytes start at starts inside;
-  are_fields = no_fields (MayFill 32);
-  is_start = is_start;
-  is_inside = are;
-}
+pub all_open : (bytes : List ℕ) (start at group : ℕ) (numbers : List ℕ) → start ≤ at → at ≤ length bytes →
+    IsHeader (take start bytes) group 3 → IsWithin group numbers (drop start (take at bytes)) → AreOpen 32 numbers (take at bytes)
+all_open bytes start at group numbers starts inside is_start within =
+    subst (λ open_numbers. AreOpen 32 open_numbers (take at bytes)) (sym within.is_outermost)
+    (all_inside bytes start at group within.inner starts inside is_start within.are_open)
+  where
+    all_inside : (bytes : List ℕ) (start at group : ℕ) (inner : List ℕ) → start ≤ at → at ≤ length bytes →
+        IsHeader (take start bytes) group 3 → AreOpen 31 inner (drop start (take at bytes)) →
+        AreOpen 32 (group ∷ inner) (take at bytes)
+    all_inside bytes start at group inner starts inside is_start are = record {
+      before = [];
+      start = take start bytes;
+      inside = drop start (take at bytes);
+      is_whole = up_to bytes start at starts inside;
+      are_fields = no_fields (MayFill 32);
+      is_start = is_start;
+      is_inside = are;
+    }
 
 -- the first fault, at a place up to which all is right
 pub fault_at : (bytes : List ℕ) (at offset : ℕ) (numbers : List ℕ) (reason : WireReason) → at ≤ length bytes →

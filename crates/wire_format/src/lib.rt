@@ -5,6 +5,7 @@ mod fault;
 mod field;
 mod group;
 mod laws;
+mod open_groups;
 mod reader;
 mod spelling;
 mod token;
