@@ -8,7 +8,7 @@ use Rattle.wire_format.specs.declared.field.Payload.TheVariants.{Varint, Eight, 
 use Rattle.wire_format.specs.Fields.{IsHeader, IsPlainField, IsSomeGroup, IsSomeField, AreFieldsOf, MayFill}
 use Rattle.wire_format.specs.Faults.{AreOpen}
 use Rattle.wire_format.proofs.OneReading.{IsPiece}
-use Rattle.wire_format.proofs.Walks.{Token, IsToken, next, then_walk, walk, bytes_of, Leads, none_some, some_same}
+use Rattle.wire_format.proofs.TokenWalks.{Token, IsToken, next, then_walk, walk, bytes_of, Leads, none_some, some_same}
 
 walk_on : (o : Option (List ℕ)) (ts us : List Token) (mid new : List ℕ) →
     ((old : List ℕ) → walk ts old ≡ Some mid → walk (ts ++ us) old ≡ Some new) →

@@ -5,8 +5,9 @@ pub mod TokenLemmas
 pub mod GroupLemmas
 pub mod ReaderLemmas
 pub mod OneReading
-pub mod Walks
+pub mod TokenWalks
 pub mod Leading
 pub mod NoFault
 pub mod LeastGroups
 pub mod WrittenFields
+pub mod WalkLemmas

@@ -9,7 +9,7 @@ use Rattle.wire_format.specs.Fields.{LAST_NUMBER}
 use Rattle.wire_format.specs.Faults.{IsNumber, IsCutBody, IsLongBody, HasHeader, IsInnermost, IsFaultWithin}
 use Rattle.wire_format.specs.Laws.{FieldsHaveNoFault}
 use Rattle.wire_format.proofs.OneReading.{IsTail, varint_same, cons_head, cons_tail}
-use Rattle.wire_format.proofs.Walks.{Token, IsToken, next, closed, bytes_of, IsStuck, one_walk}
+use Rattle.wire_format.proofs.TokenWalks.{Token, IsToken, next, closed, bytes_of, IsStuck, one_walk}
 use Rattle.wire_format.proofs.Leading.{fields_lead, open_leads, onto}
 
 go_on_last : (front : List ℕ) (last : ℕ) (after : List ℕ) → GoOn ((front ++ last ∷ []) ++ after) → 128 ≤ last

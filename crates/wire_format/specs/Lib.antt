@@ -6,3 +6,4 @@ pub mod Tokens
 pub mod Groups
 pub mod Readers
 pub mod Spellings
+pub mod Walks

@@ -10,6 +10,7 @@ mod reader;
 mod spelling;
 mod token;
 mod varint;
+mod walk;
 
 pub use fault::{WireFault, WireReason};
 pub use field::{Field, Payload};
@@ -18,6 +19,7 @@ pub use reader::FieldReader;
 pub use spelling::{
     bytes_field_len, group_field_len, spell_header, spell_varint, varint_field_len, varint_len,
 };
+pub use walk::Walk;
 
 #[cfg(test)]
 mod tests;

@@ -1,0 +1,50 @@
+use Rattle.std.proofs.Common.{◌≡◌, ◌+◌, ◌-◌, length, take, drop, refl, sym, ap, subst, ◌∙◌, true, false, arith}
+use denote.Enum.Bare.{sameb}
+use Rattle.wire_format.specs.contracts.fault.WireReason.{the_type}
+use Rattle.wire_format.specs.declared.fault.WireReason.{WireReason}
+use Rattle.wire_format.specs.declared.fault.WireReason.TheVariants.{Cut}
+use Rattle.wire_format.proofs.GroupLemmas.{token_here}
+use Rattle.wire_format.specs.Walks.{IsStayingFault}
+use Rattle.wire_format.proofs.WalkLemmas.{token_fault_stays, walk_more, stray_stays, deep_stays}
+use Rattle.wire_format.proofs.walk.Walk.advance.Goals as goal
+use Rattle.wire_format.proofs.walk.Walk.advance.Goals.{in-Stray, in-TooDeep}
+
+no_cut : (reason : WireReason) → false ≡ sameb the_type reason Cut → reason ≡ Cut → ⊥
+no_cut reason test is = let no : false ≡ true = test ∙ ap (λ found. sameb the_type found Cut) is in cc
+
+pub returns-in-Err-2 : goal.returns-in-Err-2
+returns-in-Err-2 c =
+    let fault = c.in-Err.fault in
+    token_fault_stays c.args.bytes.now c.loop-self.self-inside.at fault.place c.loop-self.self-inside.groups.items fault.reason
+    c.loop-self-test.true c.loop-self.invariant.are_open (λ is. no_cut fault.reason c.if-eq.ensures is) c.in-Err.ensures
+
+pub loop-self-smaller : goal.loop-self-smaller
+loop-self-smaller c =
+    let token = c.in-Ok.token in
+    let here = token_here c.args.bytes.now c.loop-self.self-inside.at token.len token.number token.body c.loop-self.invariant.inside c.in-Ok.ensures in
+    omega (arith, here.0, here.2)
+
+pub loop-self-preserved : goal.loop-self-preserved
+loop-self-preserved c =
+    let token = c.in-Ok.token in
+    let inside = c.loop-self.self-inside in
+    let here = token_here c.args.bytes.now inside.at token.len token.number token.body c.loop-self.invariant.inside c.in-Ok.ensures in
+    record {
+      inside = here.0;
+      are_open = walk_more c.args.bytes.now inside.at token.len token.number token.body inside.groups.items
+          c.nest.new.groups.items c.in-Fits.ensures here.1 c.loop-self.invariant.are_open;
+    }
+
+pub returns-in-loop-self : goal.returns-in-loop-self
+returns-in-loop-self c =
+    let token = c.in-Ok.token in
+    let inside = c.loop-self.self-inside in
+    let here = token_here c.args.bytes.now inside.at token.len token.number token.body c.loop-self.invariant.inside c.in-Ok.ensures in
+    elim c.match-nest.branch [
+      | in-Stray w ↦ subst (λ reason. IsStayingFault c.args.bytes.now reason inside.at) (sym w.reason-is)
+          (stray_stays c.args.bytes.now inside.at token.len token.number token.body inside.groups.items
+          c.loop-self.invariant.inside c.loop-self.invariant.are_open here.1 w.in-Stray.ensures)
+      | in-TooDeep w ↦ subst (λ reason. IsStayingFault c.args.bytes.now reason inside.at) (sym w.reason-is)
+          (deep_stays c.args.bytes.now inside.at token.len token.number token.body inside.groups.items
+          c.loop-self.invariant.inside c.loop-self.invariant.are_open here.1 w.in-TooDeep.ensures)
+    ]
