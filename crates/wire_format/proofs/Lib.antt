@@ -11,3 +11,4 @@ pub mod NoFault
 pub mod LeastGroups
 pub mod WrittenFields
 pub mod WalkLemmas
+pub mod StayingFaults

@@ -7,6 +7,7 @@ use Rattle.wire_format.specs.declared.fault.WireReason.TheVariants.{Cut, LongVar
 use Rattle.wire_format.specs.Varints.{GoOn, IsVarint, IsCutVarint, IsLongVarint}
 use Rattle.wire_format.specs.Fields.{LAST_NUMBER}
 use Rattle.wire_format.specs.Faults.{IsNumber, IsCutBody, IsLongBody, HasHeader, IsInnermost, IsFaultWithin}
+use Rattle.wire_format.specs.Walks.{Stays}
 use Rattle.wire_format.specs.Laws.{FieldsHaveNoFault}
 use Rattle.wire_format.proofs.OneReading.{IsTail, varint_same, cons_head, cons_tail}
 use Rattle.wire_format.proofs.TokenWalks.{Token, IsToken, next, closed, bytes_of, IsStuck, one_walk}
@@ -17,7 +18,7 @@ go_on_last [] last after all = all.0
 go_on_last (byte ∷ front) last after all = go_on_last front last after all.1
 
 -- where bytes end inside a varint, no varint stands
-varint_not_cut : (a x bytes : List ℕ) (value : ℕ) → IsVarint a value → a ++ x ≡ bytes → IsCutVarint bytes → ⊥
+pub varint_not_cut : (a x bytes : List ℕ) (value : ℕ) → IsVarint a value → a ++ x ≡ bytes → IsCutVarint bytes → ⊥
 varint_not_cut a x bytes value varint same cut =
     let all : GoOn ((varint.front ++ varint.last ∷ []) ++ x)
     = subst GoOn (sym same ∙ ap (λ front. front ++ x) varint.is_whole) cut.goes_on in
@@ -35,7 +36,7 @@ long_against (h ∷ f) (k ∷ front) l tenth x after goes short ends same =
     (omega (arith, rest.0), rest.1)
 
 -- where a varint is too long, no varint stands
-varint_not_long : (a x bytes : List ℕ) (value : ℕ) → IsVarint a value → a ++ x ≡ bytes → IsLongVarint bytes → ⊥
+pub varint_not_long : (a x bytes : List ℕ) (value : ℕ) → IsVarint a value → a ++ x ≡ bytes → IsLongVarint bytes → ⊥
 varint_not_long a x bytes value varint same long =
     let found = long_against varint.front long.front varint.last long.tenth x long.after long.goes_on
     (omega (arith, varint.is_short, long.is_ninth)) varint.ends
@@ -121,11 +122,11 @@ piece_some token piece =
     )
 
 -- no token stands where no bytes are
-stuck_at_end : (numbers rest : List ℕ) → rest ≡ [] → IsStuck numbers rest
+pub stuck_at_end : (numbers rest : List ℕ) → rest ≡ [] → IsStuck numbers rest
 stuck_at_end numbers rest none token after piece same =
     absurd (omega (arith, piece_some token piece, length-append token.bytes after, ap length same, ap length none))
 
-onto_length : (numbers old : List ℕ) → length (onto numbers old) ≡ length numbers + length old
+pub onto_length : (numbers old : List ℕ) → length (onto numbers old) ≡ length numbers + length old
 unfolding onto
 onto_length [] old = omega arith
 onto_length (number ∷ numbers) old = omega (arith, onto_length numbers (number ∷ old))
@@ -179,7 +180,7 @@ stray_innermost numbers number innermost outer stray same is =
     stray_either numbers number innermost outer stray is (inl none) = omega (arith, ap length none.1)
     stray_either numbers number innermost outer stray is (inr found) = stray (subst (IsInnermost numbers) is found)
 
-token_meets_cut : (token : Token) (rest after : List ℕ) → IsToken token → token.bytes ++ after ≡ rest →
+pub token_meets_cut : (token : Token) (rest after : List ℕ) → IsToken token → token.bytes ++ after ≡ rest →
     IsCutVarint rest ⊎ HasHeader (λ number kind body size. IsNumber number × IsCutBody kind body) rest → ⊥
 token_meets_cut token rest after piece same (inl cut) =
     varint_not_cut piece.header (piece.body ++ after) rest (token.number * 8 + token.kind) piece.is_header.is_varint
@@ -199,7 +200,7 @@ token_meets_long token rest after place piece same (inr found) =
     tail_not_long found.kind one.tail after found.body one.is_tail one.is_body found.holds.1.0 found.holds.1.1
 
 -- where bytes are at fault within some open groups, no token may stand
-stuck_at_fault : (numbers rest : List ℕ) (reason : WireReason) (place : ℕ) → IsFaultWithin numbers rest reason place →
+pub stuck_at_fault : (numbers rest : List ℕ) (reason : WireReason) (place : ℕ) → IsFaultWithin numbers rest reason place →
     IsStuck (onto numbers []) rest
 stuck_at_fault numbers rest Cut place fault token after piece same =
     absurd (token_meets_cut token rest after piece same fault.1.1)
@@ -228,7 +229,7 @@ stuck_at_fault numbers rest TooDeep place fault token after piece same =
     next_start token (onto numbers []) (one.is_kind ∙ found.holds.1)
     (omega (arith, onto_length numbers [], found.holds.2))
 
-header_some : (Holds : ℕ → ℕ → List ℕ → ℕ → Type 0) (bytes : List ℕ) → HasHeader Holds bytes → 0 < length bytes
+pub header_some : (Holds : ℕ → ℕ → List ℕ → ℕ → Type 0) (bytes : List ℕ) → HasHeader Holds bytes → 0 < length bytes
 header_some Holds bytes found =
     omega (
       arith,
@@ -241,29 +242,38 @@ header_some Holds bytes found =
 long_some : (bytes : List ℕ) → IsLongVarint bytes → 0 < length bytes
 long_some bytes long = omega (arith, ap length long.is_whole, length-append long.front (long.tenth ∷ long.after))
 
-long_at_some : (bytes : List ℕ) (place : ℕ) →
+pub long_at_some : (bytes : List ℕ) (place : ℕ) →
     ((place ≡ 9) × IsLongVarint bytes)
     ⊎ HasHeader (λ number kind body size. IsNumber number × IsLongBody kind body × (place ≡ size + 9)) bytes → 0 < length bytes
 long_at_some bytes place (inl long) = long_some bytes long.1
 long_at_some bytes place (inr found) =
     header_some (λ number kind body size. IsNumber number × IsLongBody kind body × (place ≡ size + 9)) bytes found
 
+-- a fault that stays is one of some bytes
+pub staying_some : (numbers rest : List ℕ) (reason : WireReason) (place : ℕ) → Stays reason → IsFaultWithin numbers rest reason place →
+    0 < length rest
+staying_some numbers rest Cut place stays fault = absurd stays
+staying_some numbers rest LongVarint place stays fault = long_at_some rest place fault
+staying_some numbers rest ZeroNumber place stays fault = header_some (λ number kind body size. number ≡ 0) rest fault.1
+staying_some numbers rest BigNumber place stays fault = header_some (λ number kind body size. LAST_NUMBER < number) rest fault.1
+staying_some numbers rest BadKind place stays fault = header_some (λ number kind body size. IsNumber number × (6 ≤ kind)) rest fault.1
+staying_some numbers rest OpenGroup place stays fault = absurd stays
+staying_some numbers rest StrayEnd place stays fault =
+    header_some (λ number kind body size. IsNumber number × (kind ≡ 4) × (IsInnermost numbers number → ⊥)) rest fault.1
+staying_some numbers rest TooDeep place stays fault =
+    header_some (λ number kind body size. IsNumber number × (kind ≡ 3) × (length numbers ≡ 32)) rest fault.1
+
 -- no fault stands at the end, where no group is open
 none_at_end : (numbers rest : List ℕ) (reason : WireReason) (place : ℕ) → numbers ≡ [] → rest ≡ [] →
     IsFaultWithin numbers rest reason place → ⊥
 none_at_end numbers rest Cut place closed none fault = fault.0 none
-none_at_end numbers rest LongVarint place closed none fault = omega (arith, long_at_some rest place fault, ap length none)
-none_at_end numbers rest ZeroNumber place closed none fault =
-    omega (arith, header_some (λ number kind body size. number ≡ 0) rest fault.1, ap length none)
-none_at_end numbers rest BigNumber place closed none fault =
-    omega (arith, header_some (λ number kind body size. LAST_NUMBER < number) rest fault.1, ap length none)
-none_at_end numbers rest BadKind place closed none fault =
-    omega (arith, header_some (λ number kind body size. IsNumber number × (6 ≤ kind)) rest fault.1, ap length none)
+none_at_end numbers rest LongVarint place closed none fault = omega (arith, staying_some numbers rest LongVarint place tt fault, ap length none)
+none_at_end numbers rest ZeroNumber place closed none fault = omega (arith, staying_some numbers rest ZeroNumber place tt fault, ap length none)
+none_at_end numbers rest BigNumber place closed none fault = omega (arith, staying_some numbers rest BigNumber place tt fault, ap length none)
+none_at_end numbers rest BadKind place closed none fault = omega (arith, staying_some numbers rest BadKind place tt fault, ap length none)
 none_at_end numbers rest OpenGroup place closed none fault = fault.2 closed
-none_at_end numbers rest StrayEnd place closed none fault =
-    omega (arith, header_some (λ number kind body size. IsNumber number × (kind ≡ 4) × (IsInnermost numbers number → ⊥)) rest fault.1, ap length none)
-none_at_end numbers rest TooDeep place closed none fault =
-    omega (arith, header_some (λ number kind body size. IsNumber number × (kind ≡ 3) × (length numbers ≡ 32)) rest fault.1, ap length none)
+none_at_end numbers rest StrayEnd place closed none fault = omega (arith, staying_some numbers rest StrayEnd place tt fault, ap length none)
+none_at_end numbers rest TooDeep place closed none fault = omega (arith, staying_some numbers rest TooDeep place tt fault, ap length none)
 
 pub fields_have_no_fault : FieldsHaveNoFault
 fields_have_no_fault bytes reason place fields fault =

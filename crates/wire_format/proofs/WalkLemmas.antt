@@ -1,5 +1,5 @@
 -- A walk over tokens, one token more.
-use Rattle.std.proofs.Common.{◌≡◌, ℕ, ◌+◌, ◌-◌, ◌<◌, ◌≤◌, List, [], ◌∷◌, ◌++◌, length, take, drop, refl, sym, ap, subst, ◌∙◌, arith}
+use Rattle.std.proofs.Common.{◌≡◌, ℕ, ◌+◌, ◌-◌, ◌<◌, ◌≤◌, List, [], ◌∷◌, ◌++◌, inl, inr, length, take, drop, refl, sym, ap, subst, ◌∙◌, arith}
 use Rattle.std.proofs.lemmas.List.{length-drop}
 use Rattle.std.proofs.Math.Seq.{take-add}
 use Rattle.wire_format.specs.declared.token.Body.{Body}
@@ -9,7 +9,7 @@ use Rattle.wire_format.specs.declared.fault.WireReason.TheVariants.{Cut, LongVar
 use Rattle.wire_format.specs.Faults.{AreOpen, IsInnermost, IsTokenFault, IsFault}
 use Rattle.wire_format.specs.Tokens.{IsToken}
 use Rattle.wire_format.specs.Groups.{Nests}
-use Rattle.wire_format.specs.Walks.{Stays, IsStayingFault}
+use Rattle.wire_format.specs.Walks.{IsWalkedOut, Stays, IsStayingFault}
 use Rattle.wire_format.proofs.TokenLemmas.{from_place}
 use Rattle.wire_format.proofs.GroupLemmas.{nested, fault_at, token_fault, stray_here, deep_here}
 
@@ -63,3 +63,24 @@ deep_stays bytes at size number body numbers inside are token deep = (
       (deep_here numbers (drop at bytes) size number (subst (IsToken (take size (drop at bytes)) number) deep.0 token) deep.1)),
   tt,
 )
+
+-- a walk up to a token that is cut
+pub cut_walk : (bytes : List ℕ) (at place : ℕ) (numbers : List ℕ) (reason : WireReason) → at ≤ length bytes →
+    AreOpen 32 numbers (take at bytes) → reason ≡ Cut → IsTokenFault (take (length bytes - at) (drop at bytes)) reason place →
+    IsWalkedOut (record { at = at; numbers = numbers }) bytes
+cut_walk bytes at place numbers reason inside are is found =
+    let fault : IsTokenFault (drop at bytes) Cut place
+    = subst (λ rest. IsTokenFault rest Cut place) (from_place bytes at)
+    (subst (λ why. IsTokenFault (take (length bytes - at) (drop at bytes)) why place) is found) in
+    record {
+      is_walk = record { inside = inside; are_open = are };
+      is_cut = inr (refl, fault.1);
+    }
+
+-- a walk up to the end
+pub end_walk : (bytes : List ℕ) (at : ℕ) (numbers : List ℕ) → at ≤ length bytes → AreOpen 32 numbers (take at bytes) →
+    length bytes ≤ at → IsWalkedOut (record { at = at; numbers = numbers }) bytes
+end_walk bytes at numbers inside are end = record {
+  is_walk = record { inside = inside; are_open = are };
+  is_cut = inl (omega (arith, inside, end));
+}

@@ -1,16 +1,23 @@
 -- What holds of all bytes, by the definitions alone.
-use Rattle.std.specs.Prelude.{ℕ, ◌^◌, ◌<◌, ◌≤◌, List, length}
+use Rattle.std.specs.Prelude.{ℕ, ◌^◌, ◌<◌, ◌≤◌, List, ◌++◌, length}
 use Rattle.std.specs.Borrow.{Bor}
 use Rattle.wire_format.specs.declared.field.Payload.TheVariants.{Varint, Bytes, Group}
 use Rattle.wire_format.specs.declared.fault.WireReason.{WireReason}
 use Rattle.wire_format.specs.Varints.{IsVarint}
 use Rattle.wire_format.specs.Fields.{MAX_NESTING, IsField, AreFields, MayFill}
 use Rattle.wire_format.specs.Faults.{IsNumber, IsFault}
+use Rattle.wire_format.specs.Walks.{Stays}
 use Rattle.wire_format.specs.Spellings.{varint_of, varint_field, bytes_field, group_field}
 
 -- bytes that are fields have no fault
 abbrev pub FieldsHaveNoFault : Type 0
 FieldsHaveNoFault = (bytes : List ℕ) → (reason : WireReason) → (place : ℕ) → AreFields bytes → IsFault bytes reason place → ⊥
+
+-- a fault that stays is one of all longer bytes too
+abbrev pub StayingFaultsStay : Type 0
+StayingFaultsStay =
+    (bytes more : List ℕ) → (reason : WireReason) → (place : ℕ) → Stays reason → IsFault bytes reason place →
+    IsFault (bytes ++ more) reason place
 
 -- the least varint of a number is one of its varints
 abbrev pub LeastVarintsAreVarints : Type 0

@@ -1,9 +1,9 @@
 pub mod Varints
 pub mod Fields
 pub mod Faults
+pub mod Walks
 pub mod Laws
 pub mod Tokens
 pub mod Groups
 pub mod Readers
 pub mod Spellings
-pub mod Walks

@@ -1,9 +1,14 @@
 //! What holds of all bytes, by the definitions alone.
-ghost use Rattle.wire_format.specs.Laws.{FieldsHaveNoFault, LeastVarintsAreVarints, LeastVarintsAreShortest, VarintFieldsAreFields, BytesFieldsAreFields, GroupFieldsAreFields};
+ghost use Rattle.wire_format.specs.Laws.{FieldsHaveNoFault, StayingFaultsStay, LeastVarintsAreVarints, LeastVarintsAreShortest, VarintFieldsAreFields, BytesFieldsAreFields, GroupFieldsAreFields};
 
 /// Bytes that are fields have no fault: a reader that tells one has not met such bytes.
 pub fn fields_have_no_fault()
     ensures { FieldsHaveNoFault }
+{}
+
+/// A fault that no bytes to come can mend is the fault of all longer bytes too.
+pub fn staying_faults_stay()
+    ensures { StayingFaultsStay }
 {}
 
 /// The least varint of a number is one of its varints, and no other one is shorter.

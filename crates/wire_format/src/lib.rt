@@ -14,7 +14,10 @@ mod walk;
 
 pub use fault::{WireFault, WireReason};
 pub use field::{Field, Payload};
-pub use laws::{fields_have_no_fault, least_varints_are_shortest, written_fields_are_fields};
+pub use laws::{
+    fields_have_no_fault, least_varints_are_shortest, staying_faults_stay,
+    written_fields_are_fields,
+};
 pub use reader::FieldReader;
 pub use spelling::{
     bytes_field_len, group_field_len, spell_header, spell_varint, varint_field_len, varint_len,

@@ -185,6 +185,7 @@ fn a_varint_has_one_byte_for_seven_bits(rt: HostRuntime) -> Result<(), Fail> {
 #[test]
 fn has_laws() {
     fields_have_no_fault();
+    staying_faults_stay();
     least_varints_are_shortest();
     written_fields_are_fields();
 }

@@ -1,8 +1,8 @@
 //! Walking over the tokens of bytes that come in pieces.
-ghost use Rattle.std.specs.Prelude.{◌≡◌, [], MatchResult};
+ghost use Rattle.std.specs.Prelude.{◌≡◌, [], MatchResult, OnOk};
 ghost use Rattle.wire_format.specs.Fields.{AreFields};
 ghost use Rattle.wire_format.specs.Faults.{IsFault};
-ghost use Rattle.wire_format.specs.Walks.{IsWalk, IsWalkedOut, IsStayingFault};
+ghost use Rattle.wire_format.specs.Walks.{IsWalk, IsWalkedOut, IsStayingFault, MayGoOn};
 
 use crate::fault::{WireFault, WireReason};
 use crate::open_groups::{Nesting, OpenGroups, nest};
@@ -42,9 +42,10 @@ impl Walk {
     /// It takes time linear in the number of tokens that were not whole before, and looks into no content of bytes.
     pub fn advance(&mut self, bytes: &[u8]) -> Result<(), WireFault>
         requires { IsWalk self.old bytes.now }
-        ensures { MatchResult result
+        ensures walked { MatchResult result
             (λ _. IsWalkedOut self.new bytes.now)
             (λ fault. IsStayingFault bytes.now fault.reason fault.at) }
+        ensures may_go_on { OnOk result (MayGoOn bytes.now) }
     {
         while self.at < bytes.len() {
             let token = match Token::read(&bytes[self.at..]) {

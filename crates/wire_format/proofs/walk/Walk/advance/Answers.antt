@@ -1,19 +1,20 @@
-use Rattle.std.proofs.Common.{◌≡◌, ◌+◌, ◌-◌, length, take, drop, refl, sym, ap, subst, ◌∙◌, true, false, arith}
-use denote.Enum.Bare.{sameb}
+use Rattle.std.proofs.Common.{◌≡◌, ◌+◌, ◌-◌, length, take, drop, refl, sym, ap, subst, ◌∙◌, true, false, rules, arith}
+use denote.Enum.Bare.{sameb, same_true}
 use Rattle.wire_format.specs.contracts.fault.WireReason.{the_type}
 use Rattle.wire_format.specs.declared.fault.WireReason.{WireReason}
 use Rattle.wire_format.specs.declared.fault.WireReason.TheVariants.{Cut}
 use Rattle.wire_format.proofs.GroupLemmas.{token_here}
 use Rattle.wire_format.specs.Walks.{IsStayingFault}
-use Rattle.wire_format.proofs.WalkLemmas.{token_fault_stays, walk_more, stray_stays, deep_stays}
+use Rattle.wire_format.proofs.WalkLemmas.{token_fault_stays, walk_more, stray_stays, deep_stays, cut_walk, end_walk}
+use Rattle.wire_format.proofs.StayingFaults.{may_go_on}
 use Rattle.wire_format.proofs.walk.Walk.advance.Goals as goal
 use Rattle.wire_format.proofs.walk.Walk.advance.Goals.{in-Stray, in-TooDeep}
 
 no_cut : (reason : WireReason) → false ≡ sameb the_type reason Cut → reason ≡ Cut → ⊥
 no_cut reason test is = let no : false ≡ true = test ∙ ap (λ found. sameb the_type found Cut) is in cc
 
-pub returns-in-Err-2 : goal.returns-in-Err-2
-returns-in-Err-2 c =
+pub returns-in-Err-2-clause-walked : goal.returns-in-Err-2-clause-walked
+returns-in-Err-2-clause-walked c =
     let fault = c.in-Err.fault in
     token_fault_stays c.args.bytes.now c.loop-self.self-inside.at fault.place c.loop-self.self-inside.groups.items fault.reason
     c.loop-self-test.true c.loop-self.invariant.are_open (λ is. no_cut fault.reason c.if-eq.ensures is) c.in-Err.ensures
@@ -35,8 +36,8 @@ loop-self-preserved c =
           c.nest.new.groups.items c.in-Fits.ensures here.1 c.loop-self.invariant.are_open;
     }
 
-pub returns-in-loop-self : goal.returns-in-loop-self
-returns-in-loop-self c =
+pub returns-in-loop-self-clause-walked : goal.returns-in-loop-self-clause-walked
+returns-in-loop-self-clause-walked c =
     let token = c.in-Ok.token in
     let inside = c.loop-self.self-inside in
     let here = token_here c.args.bytes.now inside.at token.len token.number token.body c.loop-self.invariant.inside c.in-Ok.ensures in
@@ -48,3 +49,19 @@ returns-in-loop-self c =
           (deep_stays c.args.bytes.now inside.at token.len token.number token.body inside.groups.items
           c.loop-self.invariant.inside c.loop-self.invariant.are_open here.1 w.in-TooDeep.ensures)
     ]
+
+pub returns-in-Err-clause-may_go_on : goal.returns-in-Err-clause-may_go_on
+returns-in-Err-clause-may_go_on c =
+    let inside = c.loop-self.self-inside in
+    let loop = c.loop-self.invariant in
+    let fault = c.in-Err.fault in
+    let is : fault.reason ≡ Cut = same_true the_type (search rules) fault.reason Cut (sym c.if-eq.ensures) in
+    may_go_on (record { at = inside.at; numbers = inside.groups.items }) c.args.bytes.now
+    (cut_walk c.args.bytes.now inside.at fault.place inside.groups.items fault.reason loop.inside loop.are_open is c.in-Err.ensures)
+
+pub returns-clause-may_go_on : goal.returns-clause-may_go_on
+returns-clause-may_go_on c =
+    let inside = c.loop-self.self-inside in
+    let loop = c.loop-self.invariant in
+    may_go_on (record { at = inside.at; numbers = inside.groups.items }) c.args.bytes.now
+    (end_walk c.args.bytes.now inside.at inside.groups.items loop.inside loop.are_open c.loop-self-test.false)
