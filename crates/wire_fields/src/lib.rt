@@ -5,14 +5,17 @@ mod field_writer;
 mod list;
 mod memory;
 mod octets;
+mod pieces;
 
 pub use field_writer::FieldWriter;
 pub use list::List;
 pub use memory::NoMemory;
 pub use octets::Octets;
+pub use pieces::{PieceFault, Pieces};
 pub use wire_format::{
-    Field, FieldReader, Payload, WireFault, WireReason, fields_have_no_fault, spell_header,
-    spell_varint, varint_len,
+    Field, FieldReader, Payload, Walk, WireFault, WireReason, bytes_field_len,
+    fields_have_no_fault, group_field_len, least_varints_are_shortest, spell_header, spell_varint,
+    staying_faults_stay, varint_field_len, varint_len, written_fields_are_fields,
 };
 
 #[cfg(test)]

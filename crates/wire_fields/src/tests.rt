@@ -128,3 +128,98 @@ fn a_group_stands_in_a_group(rt: HostRuntime) -> Result<(), Fail> {
     assert_eq!(rt; content, b"\x13\x08\x01\x14".as_slice());
     Ok(())
 }
+
+// Feeds bytes one by one, and then all of them are there.
+fn feed_each(pieces: &mut Pieces, bytes: &[u8]) -> Result<(), PieceFault> {
+    for place in 0..bytes.len() {
+        pieces.feed(&bytes[place..place + 1])?;
+    }
+    Ok(())
+}
+
+#[test]
+fn pieces_end_in_the_fault_of_the_whole(rt: HostRuntime) -> Result<(), Fail> {
+    let rows: [(&[u8], u64, WireReason); 3] = [
+        (b"\x0a\x05\x61", 3, WireReason::Cut),
+        (b"\x0b\x10\x01", 3, WireReason::OpenGroup),
+        (b"\x08\x01\x80", 3, WireReason::Cut),
+    ];
+    for (bytes, at, reason) in rows {
+        let mut pieces = Pieces::new(rt.alloc());
+        feed_each(&mut pieces, bytes)?;
+        let Err(fault) = pieces.finish() else {
+            return Err("the bytes are at fault".into());
+        };
+        assert_eq!(rt; fault, WireFault { at, reason });
+    }
+    Ok(())
+}
+
+#[test]
+fn a_length_and_its_content_come_apart(rt: HostRuntime) -> Result<(), Fail> {
+    let mut pieces = Pieces::new(rt.alloc());
+    pieces.feed(b"\x0a\x01")?;
+    pieces.feed(b"\x61")?;
+    let Ok(whole) = pieces.finish() else {
+        return Err("the bytes are fields".into());
+    };
+    assert_eq!(rt; whole.as_slice(), b"\x0a\x01\x61".as_slice());
+    Ok(())
+}
+
+#[test]
+fn a_message_may_be_cut_at_each_place(rt: HostRuntime) -> Result<(), Fail> {
+    let message = b"\x08\x96\x01\x1a\x02ab\x23\x0b\x08\x01\x0c\x24\x15\x01\x02\x03\x04";
+    for end in 0..=message.len() {
+        let mut pieces = Pieces::new(rt.alloc());
+        pieces.feed(&message[..end])?;
+        feed_each(&mut pieces, &message[end..])?;
+        let Ok(whole) = pieces.finish() else {
+            return Err("the bytes are fields".into());
+        };
+        assert_eq!(rt; whole.as_slice(), message.as_slice());
+    }
+    Ok(())
+}
+
+// The last of these bytes brings the fault, which is told at once and kept.
+#[test]
+fn a_fault_that_stays_is_told_at_once(rt: HostRuntime) -> Result<(), Fail> {
+    let rows: [(&[u8], u64, WireReason); 6] = [
+        (
+            b"\x20\xff\xff\xff\xff\xff\xff\xff\xff\xff\xff",
+            10,
+            WireReason::LongVarint,
+        ),
+        (b"\x08\x01\x0e", 2, WireReason::BadKind),
+        (b"\x08\x01\x00", 2, WireReason::ZeroNumber),
+        (b"\x80\x80\x80\x80\x10", 0, WireReason::BigNumber),
+        (b"\x0b\x13\x0c", 2, WireReason::StrayEnd),
+        (&[0x0b; 33], 32, WireReason::TooDeep),
+    ];
+    for (bytes, at, reason) in rows {
+        let fault = WireFault { at, reason };
+        let last = bytes.len() - 1;
+        let mut pieces = Pieces::new(rt.alloc());
+        feed_each(&mut pieces, &bytes[..last])?;
+        for piece in [&bytes[last..], b"\x08\x01", b""] {
+            assert_eq!(rt; pieces.feed(piece), Err(PieceFault::Wire(fault)));
+        }
+        let Err(found) = pieces.finish() else {
+            return Err("the fault is told again".into());
+        };
+        assert_eq!(rt; found, fault);
+    }
+    Ok(())
+}
+
+#[test]
+fn shows_why_a_piece_was_not_taken(rt: HostRuntime) -> Result<(), Fail> {
+    let fault = WireFault {
+        at: 3,
+        reason: WireReason::Cut,
+    };
+    let text = format!(in rt.alloc(); "{}, {}", PieceFault::from(fault), PieceFault::NoMemory)?;
+    assert_eq!(rt; text.as_str(), "at 3: cut, no memory");
+    Ok(())
+}

@@ -1,3 +1,6 @@
+use std::error::Error;
+use std::fmt;
+
 /// Why bytes are no list of fields.
 #[derive(Debug, Clone, Copy, PartialEq, Eq, Drop)]
 pub enum WireReason {
@@ -25,3 +28,26 @@ pub struct WireFault {
     pub at: u64,
     pub reason: WireReason,
 }
+
+impl fmt::Display for WireReason {
+    fn fmt<W: fmt::Write>(&self, f: &mut fmt::Formatter<W>) -> fmt::Result {
+        f.write_str(match self {
+            WireReason::Cut => "cut",
+            WireReason::LongVarint => "long varint",
+            WireReason::BadKind => "bad kind",
+            WireReason::ZeroNumber => "zero number",
+            WireReason::BigNumber => "big number",
+            WireReason::OpenGroup => "open group",
+            WireReason::StrayEnd => "stray end",
+            WireReason::TooDeep => "too deep",
+        })
+    }
+}
+
+impl fmt::Display for WireFault {
+    fn fmt<W: fmt::Write>(&self, f: &mut fmt::Formatter<W>) -> fmt::Result {
+        write!(f, "at {}: {}", self.at, self.reason)
+    }
+}
+
+impl Error for WireFault {}

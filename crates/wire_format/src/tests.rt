@@ -183,6 +183,25 @@ fn a_varint_has_one_byte_for_seven_bits(rt: HostRuntime) -> Result<(), Fail> {
 }
 
 #[test]
+fn a_fault_is_shown_with_its_place(rt: HostRuntime) -> Result<(), Fail> {
+    let rows = [
+        (WireReason::Cut, "at 3: cut"),
+        (WireReason::LongVarint, "at 3: long varint"),
+        (WireReason::BadKind, "at 3: bad kind"),
+        (WireReason::ZeroNumber, "at 3: zero number"),
+        (WireReason::BigNumber, "at 3: big number"),
+        (WireReason::OpenGroup, "at 3: open group"),
+        (WireReason::StrayEnd, "at 3: stray end"),
+        (WireReason::TooDeep, "at 3: too deep"),
+    ];
+    for (reason, text) in rows {
+        let shown = format!(in rt.alloc(); "{}", WireFault { at: 3, reason })?;
+        assert_eq!(rt; shown.as_str(), text);
+    }
+    Ok(())
+}
+
+#[test]
 fn has_laws() {
     fields_have_no_fault();
     staying_faults_stay();
