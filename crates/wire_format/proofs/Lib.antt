@@ -12,3 +12,5 @@ pub mod LeastGroups
 pub mod WrittenFields
 pub mod WalkLemmas
 pub mod StayingFaults
+pub mod OneFault
+pub mod OneField

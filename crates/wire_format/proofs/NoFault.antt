@@ -159,7 +159,7 @@ closed_none number [] stray = refl
 closed_none number (innermost ∷ outer) stray =
     ap (λ same. if same then Some outer else None) (not_itself innermost number (stray innermost outer refl))
 
-next_end : (token : Token) (open_numbers : List ℕ) → token.kind ≡ 4 → next token open_numbers ≡ closed token.number open_numbers
+pub next_end : (token : Token) (open_numbers : List ℕ) → token.kind ≡ 4 → next token open_numbers ≡ closed token.number open_numbers
 next_end token open_numbers is =
     ap (λ kind. if kind == 3 then (if nat_lt (length open_numbers) 32 then Some (token.number ∷ open_numbers) else None)
     else if kind == 4 then closed token.number open_numbers else Some open_numbers) is

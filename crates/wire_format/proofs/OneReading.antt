@@ -36,7 +36,7 @@ varint_same a b x y v w va vb same =
     (one, found.1, va.is_value ∙ ap groups_value one ∙ sym vb.is_value)
 
 -- parts of one length at the front of the same bytes are one
-length_same : (a b x y : List ℕ) → length a ≡ length b → a ++ x ≡ b ++ y → (a ≡ b) × (x ≡ y)
+pub length_same : (a b x y : List ℕ) → length a ≡ length b → a ++ x ≡ b ++ y → (a ≡ b) × (x ≡ y)
 length_same [] [] x y long same = (refl, same)
 length_same [] (k ∷ b) x y long same = absurd (omega (arith, long))
 length_same (h ∷ a) [] x y long same = absurd (omega (arith, long))

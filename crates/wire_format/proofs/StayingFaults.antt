@@ -29,13 +29,13 @@ long_no_header Holds bytes long found =
     varint_not_long found.header found.body bytes (found.number * 8 + found.kind) found.is_varint (sym found.is_whole) long
 
 -- two headers at the front of the same bytes are one
-record AreOne (header other body rest : List ℕ) (number second kind sort : ℕ) : Type 0 where
+pub record AreOne (header other body rest : List ℕ) (number second kind sort : ℕ) : Type 0 where
   pub one_header : header ≡ other
   pub one_number : number ≡ second
   pub one_kind : kind ≡ sort
   pub one_body : body ≡ rest
 
-headers_same : (Holds Also : ℕ → ℕ → List ℕ → ℕ → Type 0) (bytes : List ℕ) (f : HasHeader Holds bytes) (g : HasHeader Also bytes) →
+pub headers_same : (Holds Also : ℕ → ℕ → List ℕ → ℕ → Type 0) (bytes : List ℕ) (f : HasHeader Holds bytes) (g : HasHeader Also bytes) →
     AreOne f.header g.header f.body g.body f.number g.number f.kind g.kind
 headers_same Holds Also bytes f g =
     let one = varint_same f.header g.header f.body g.body (f.number * 8 + f.kind) (g.number * 8 + g.kind) f.is_varint g.is_varint
@@ -68,11 +68,11 @@ cut_not_long_body kind body (inr (inr (inr (inl cut)))) long =
 cut_not_long_body kind body (inr (inr (inr (inr cut)))) long = omega (arith, (long_kind kind long.0).1, cut.0)
 
 -- what a header that is cut is followed by
-abbrev CutAfter : ℕ → ℕ → List ℕ → ℕ → Type 0
+abbrev pub CutAfter : ℕ → ℕ → List ℕ → ℕ → Type 0
 CutAfter number kind body size = IsNumber number × IsCutBody kind body
 
 -- what a header is followed by that a varint follows which is too long
-abbrev LongAfter : ℕ → ℕ → ℕ → List ℕ → ℕ → Type 0
+abbrev pub LongAfter : ℕ → ℕ → ℕ → List ℕ → ℕ → Type 0
 LongAfter place number kind body size = IsNumber number × IsLongBody kind body × (place ≡ size + 9)
 
 cut_against_long : (rest : List ℕ) (place : ℕ) → IsCutVarint rest ⊎ HasHeader CutAfter rest →
@@ -99,7 +99,7 @@ cut_against_header Holds rest apart (inr cut) found =
     (subst (λ kind. (kind ≢ 3) × (kind ≢ 4) × (kind < 6)) one.one_kind kinds)
 
 -- where bytes end inside a token, no fault stands that stays
-cut_not_staying : (numbers rest : List ℕ) (reason : WireReason) (place : ℕ) → IsCutVarint rest ⊎ HasHeader CutAfter rest →
+pub cut_not_staying : (numbers rest : List ℕ) (reason : WireReason) (place : ℕ) → IsCutVarint rest ⊎ HasHeader CutAfter rest →
     Stays reason → IsFaultWithin numbers rest reason place → ⊥
 cut_not_staying numbers rest Cut place cut stays fault = stays
 cut_not_staying numbers rest LongVarint place cut stays fault = cut_against_long rest place cut fault

@@ -1,9 +1,19 @@
 //! What holds of all bytes, by the definitions alone.
-ghost use Rattle.wire_format.specs.Laws.{FieldsHaveNoFault, StayingFaultsStay, LeastVarintsAreVarints, LeastVarintsAreShortest, VarintFieldsAreFields, BytesFieldsAreFields, GroupFieldsAreFields};
+ghost use Rattle.wire_format.specs.Laws.{FieldsHaveNoFault, BytesHaveOneFault, OneFieldStandsAtAFront, StayingFaultsStay, LeastVarintsAreVarints, LeastVarintsAreShortest, VarintFieldsAreFields, BytesFieldsAreFields, GroupFieldsAreFields};
 
 /// Bytes that are fields have no fault: a reader that tells one has not met such bytes.
 pub fn fields_have_no_fault()
     ensures { FieldsHaveNoFault }
+{}
+
+/// Bytes have one fault at most, so that a fault that is told is the one.
+pub fn bytes_have_one_fault()
+    ensures { BytesHaveOneFault }
+{}
+
+/// One field at most stands at the front of some bytes, so that a field that is read is the one that was written.
+pub fn one_field_stands_at_a_front()
+    ensures { OneFieldStandsAtAFront }
 {}
 
 /// A fault that no bytes to come can mend is the fault of all longer bytes too.

@@ -15,8 +15,8 @@ mod walk;
 pub use fault::{WireFault, WireReason};
 pub use field::{Field, Payload};
 pub use laws::{
-    fields_have_no_fault, least_varints_are_shortest, staying_faults_stay,
-    written_fields_are_fields,
+    bytes_have_one_fault, fields_have_no_fault, least_varints_are_shortest,
+    one_field_stands_at_a_front, staying_faults_stay, written_fields_are_fields,
 };
 pub use reader::FieldReader;
 pub use spelling::{

@@ -204,6 +204,8 @@ fn a_fault_is_shown_with_its_place(rt: HostRuntime) -> Result<(), Fail> {
 #[test]
 fn has_laws() {
     fields_have_no_fault();
+    bytes_have_one_fault();
+    one_field_stands_at_a_front();
     staying_faults_stay();
     least_varints_are_shortest();
     written_fields_are_fields();
