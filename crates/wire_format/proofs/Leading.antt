@@ -8,28 +8,28 @@ use Rattle.wire_format.specs.declared.field.Payload.TheVariants.{Varint, Eight, 
 use Rattle.wire_format.specs.Fields.{IsHeader, IsPlainField, IsSomeGroup, IsSomeField, AreFieldsOf, MayFill}
 use Rattle.wire_format.specs.Faults.{AreOpen}
 use Rattle.wire_format.proofs.OneReading.{IsPiece}
-use Rattle.wire_format.proofs.TokenWalks.{Token, IsToken, next, then_walk, walk, bytes_of, Leads, none_some, some_same}
+use Rattle.wire_format.proofs.TokenWalks.{Step, IsStep, next, then_walk, walk, bytes_of, Leads, none_some, some_same}
 
-walk_on : (o : Option (List ℕ)) (ts us : List Token) (mid new : List ℕ) →
+walk_on : (o : Option (List ℕ)) (ts us : List Step) (mid new : List ℕ) →
     ((old : List ℕ) → walk ts old ≡ Some mid → walk (ts ++ us) old ≡ Some new) →
     then_walk o (λ after. walk ts after) ≡ Some mid → then_walk o (λ after. walk (ts ++ us) after) ≡ Some new
 unfolding then_walk
 walk_on None ts us mid new on first = absurd (none_some mid first)
 walk_on (Some after) ts us mid new on first = on after first
 
-walk_join : (ts us : List Token) (old mid new : List ℕ) → walk ts old ≡ Some mid → walk us mid ≡ Some new →
+walk_join : (ts us : List Step) (old mid new : List ℕ) → walk ts old ≡ Some mid → walk us mid ≡ Some new →
     walk (ts ++ us) old ≡ Some new
 unfolding walk
 walk_join [] us old mid new first second = ap (walk us) (some_same old mid first) ∙ second
 walk_join (t ∷ ts) us old mid new first second =
     walk_on (next t old) ts us mid new (λ after here. walk_join ts us after mid new here second) first
 
-bytes_join : (ts us : List Token) → bytes_of (ts ++ us) ≡ bytes_of ts ++ bytes_of us
+bytes_join : (ts us : List Step) → bytes_of (ts ++ us) ≡ bytes_of ts ++ bytes_of us
 unfolding bytes_of
 bytes_join [] us = refl
 bytes_join (t ∷ ts) us = ap (λ rest. t.bytes ++ rest) (bytes_join ts us) ∙ sym (append_assoc t.bytes (bytes_of ts) (bytes_of us))
 
-all_join : (ts us : List Token) → AllByRecursion IsToken ts → AllByRecursion IsToken us → AllByRecursion IsToken (ts ++ us)
+all_join : (ts us : List Step) → AllByRecursion IsStep ts → AllByRecursion IsStep us → AllByRecursion IsStep (ts ++ us)
 all_join [] us first second = second
 all_join (t ∷ ts) us first second = (first.0, all_join ts us first.1 second)
 
@@ -49,7 +49,7 @@ leads_join a b old mid new la lb = record {
 }
 
 -- one token
-leads_one : (token : Token) (old new : List ℕ) → IsToken token → next token old ≡ Some new → Leads token.bytes old new
+leads_one : (token : Step) (old new : List ℕ) → IsStep token → next token old ≡ Some new → Leads token.bytes old new
 unfolding walk bytes_of then_walk
 leads_one token old new is_token after = record {
   tokens = token ∷ [];

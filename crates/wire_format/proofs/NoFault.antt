@@ -10,7 +10,7 @@ use Rattle.wire_format.specs.Faults.{IsNumber, IsCutBody, IsLongBody, HasHeader,
 use Rattle.wire_format.specs.Walks.{Stays}
 use Rattle.wire_format.specs.Laws.{FieldsHaveNoFault}
 use Rattle.wire_format.proofs.OneReading.{IsTail, varint_same, cons_head, cons_tail}
-use Rattle.wire_format.proofs.TokenWalks.{Token, IsToken, next, closed, bytes_of, IsStuck, one_walk}
+use Rattle.wire_format.proofs.TokenWalks.{Step, IsStep, next, closed, bytes_of, IsStuck, one_walk}
 use Rattle.wire_format.proofs.Leading.{fields_lead, open_leads, onto}
 
 go_on_last : (front : List ℕ) (last : ℕ) (after : List ℕ) → GoOn ((front ++ last ∷ []) ++ after) → 128 ≤ last
@@ -44,14 +44,14 @@ varint_not_long a x bytes value varint same long =
     omega (arith, varint.tenth (found.0 ∙ long.is_ninth), found.1, long.is_above)
 
 -- a token, and a header at the front of the same bytes
-record Meets (token : Token) (bytes after : List ℕ) (number kind : ℕ) (body : List ℕ) : Type 0 where
+record Meets (token : Step) (bytes after : List ℕ) (number kind : ℕ) (body : List ℕ) : Type 0 where
   pub is_number : token.number ≡ number
   pub is_kind : token.kind ≡ kind
   pub tail : List ℕ
   pub is_tail : IsTail kind tail
   pub is_body : tail ++ after ≡ body
 
-meets : (Holds : ℕ → ℕ → List ℕ → ℕ → Type 0) (token : Token) (bytes after : List ℕ) → IsToken token → token.bytes ++ after ≡ bytes →
+meets : (Holds : ℕ → ℕ → List ℕ → ℕ → Type 0) (token : Step) (bytes after : List ℕ) → IsStep token → token.bytes ++ after ≡ bytes →
     (found : HasHeader Holds bytes) → Meets token bytes after found.number found.kind found.body
 meets Holds token bytes after piece same found =
     let joined : piece.header ++ (piece.body ++ after) ≡ found.header ++ found.body
@@ -110,7 +110,7 @@ tail_not_long kind tail after body whole same (inr is) long =
     varint_not_long delimited.count (some.content ++ after) body (length some.content) delimited.is_count
     (sym (append_assoc delimited.count some.content after) ∙ ap (λ front. front ++ after) (sym delimited.is_whole) ∙ same) long
 
-piece_some : (token : Token) → IsToken token → 0 < length token.bytes
+piece_some : (token : Step) → IsStep token → 0 < length token.bytes
 piece_some token piece =
     let varint = piece.is_header.is_varint in
     omega (
@@ -159,12 +159,12 @@ closed_none number [] stray = refl
 closed_none number (innermost ∷ outer) stray =
     ap (λ same. if same then Some outer else None) (not_itself innermost number (stray innermost outer refl))
 
-pub next_end : (token : Token) (open_numbers : List ℕ) → token.kind ≡ 4 → next token open_numbers ≡ closed token.number open_numbers
+pub next_end : (token : Step) (open_numbers : List ℕ) → token.kind ≡ 4 → next token open_numbers ≡ closed token.number open_numbers
 next_end token open_numbers is =
     ap (λ kind. if kind == 3 then (if nat_lt (length open_numbers) 32 then Some (token.number ∷ open_numbers) else None)
     else if kind == 4 then closed token.number open_numbers else Some open_numbers) is
 
-next_start : (token : Token) (open_numbers : List ℕ) → token.kind ≡ 3 → length open_numbers ≡ 32 → next token open_numbers ≡ None
+next_start : (token : Step) (open_numbers : List ℕ) → token.kind ≡ 3 → length open_numbers ≡ 32 → next token open_numbers ≡ None
 next_start token open_numbers is full =
     ap (λ kind. if kind == 3 then (if nat_lt (length open_numbers) 32 then Some (token.number ∷ open_numbers) else None)
     else if kind == 4 then closed token.number open_numbers else Some open_numbers) is
@@ -180,7 +180,7 @@ stray_innermost numbers number innermost outer stray same is =
     stray_either numbers number innermost outer stray is (inl none) = omega (arith, ap length none.1)
     stray_either numbers number innermost outer stray is (inr found) = stray (subst (IsInnermost numbers) is found)
 
-pub token_meets_cut : (token : Token) (rest after : List ℕ) → IsToken token → token.bytes ++ after ≡ rest →
+pub token_meets_cut : (token : Step) (rest after : List ℕ) → IsStep token → token.bytes ++ after ≡ rest →
     IsCutVarint rest ⊎ HasHeader (λ number kind body size. IsNumber number × IsCutBody kind body) rest → ⊥
 token_meets_cut token rest after piece same (inl cut) =
     varint_not_cut piece.header (piece.body ++ after) rest (token.number * 8 + token.kind) piece.is_header.is_varint
@@ -189,7 +189,7 @@ token_meets_cut token rest after piece same (inr found) =
     let one = meets (λ number kind body size. IsNumber number × IsCutBody kind body) token rest after piece same found in
     tail_not_cut found.kind one.tail after found.body one.is_tail one.is_body found.holds.1
 
-token_meets_long : (token : Token) (rest after : List ℕ) (place : ℕ) → IsToken token → token.bytes ++ after ≡ rest →
+token_meets_long : (token : Step) (rest after : List ℕ) (place : ℕ) → IsStep token → token.bytes ++ after ≡ rest →
     ((place ≡ 9) × IsLongVarint rest)
     ⊎ HasHeader (λ number kind body size. IsNumber number × IsLongBody kind body × (place ≡ size + 9)) rest → ⊥
 token_meets_long token rest after place piece same (inl long) =

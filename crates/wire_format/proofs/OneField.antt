@@ -7,7 +7,7 @@ use Rattle.wire_format.specs.declared.field.Payload.TheVariants.{Varint, Eight, 
 use Rattle.wire_format.specs.Fields.{IsHeader, IsPlain, IsPlainField, IsGroupOf, IsField, MayFill, header_kind}
 use Rattle.wire_format.specs.Laws.{HoldSame, OneFieldStandsAtAFront}
 use Rattle.wire_format.proofs.OneReading.{varint_same, length_same}
-use Rattle.wire_format.proofs.TokenWalks.{Token, IsToken, IsStuck, next, one_walk}
+use Rattle.wire_format.proofs.TokenWalks.{Step, IsStep, IsStuck, next, one_walk}
 use Rattle.wire_format.proofs.Leading.{fields_lead}
 use Rattle.wire_format.proofs.NoFault.{next_end}
 
@@ -50,7 +50,7 @@ split bytes number (Group content) field = record {
 -- the end of a group is no token that may stand where no group is open
 stuck_at_an_end : (end after : List ℕ) (number : ℕ) → IsHeader end number 4 → IsStuck [] (end ++ after)
 stuck_at_an_end end after number header =
-    λ (token : Token) (behind : List ℕ) (piece : IsToken token) (same : token.bytes ++ behind ≡ end ++ after).
+    λ (token : Step) (behind : List ℕ) (piece : IsStep token) (same : token.bytes ++ behind ≡ end ++ after).
     let joined : piece.header ++ (piece.body ++ behind) ≡ end ++ after
     = sym (append_assoc piece.header piece.body behind) ∙ ap (λ front. front ++ behind) (sym piece.is_whole) ∙ same in
     let one = varint_same piece.header end (piece.body ++ behind) after (token.number * 8 + token.kind) (number * 8 + 4)

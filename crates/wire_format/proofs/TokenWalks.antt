@@ -1,17 +1,17 @@
--- Walks: what the tokens of some bytes do to the groups that are open.
+-- Walks over tokens: what those of some bytes do to the groups that are open.
 use Rattle.std.proofs.Common.{◌≡◌, ℕ, Bool, true, false, if◌then◌else◌, ◌==◌, nat_lt, List, [], ◌∷◌, ◌++◌, Option, Some, None, length, refl, sym, ap, subst, ◌∙◌}
 use Rattle.std.specs.List.{AllByRecursion}
 use Rattle.std.proofs.lemmas.List.{append_assoc}
 use Rattle.wire_format.proofs.OneReading.{IsPiece, piece_same}
 
--- a token, by its bytes, its number and its kind
-pub record Token : Type 0 where
+-- a step of a walk: a token, by its bytes, its number and its kind
+pub record Step : Type 0 where
   pub bytes : List ℕ
   pub number : ℕ
   pub kind : ℕ
 
-abbrev pub IsToken : Token → Type 0
-IsToken token = IsPiece token.bytes token.number token.kind
+abbrev pub IsStep : Step → Type 0
+IsStep token = IsPiece token.bytes token.number token.kind
 
 -- the end of a group, where these are open, the innermost first
 abbrev pub closed : ℕ → List ℕ → Option (List ℕ)
@@ -19,7 +19,7 @@ closed number [] = None
 closed number (innermost ∷ numbers) = if innermost == number then Some numbers else None
 
 -- the groups that are open after a token, if it may stand where these are
-abbrev pub next : Token → List ℕ → Option (List ℕ)
+abbrev pub next : Step → List ℕ → Option (List ℕ)
 next token numbers =
     if token.kind == 3 then (if nat_lt (length numbers) 32 then Some (token.number ∷ numbers) else None)
     else if token.kind == 4 then closed token.number numbers else Some numbers
@@ -30,26 +30,26 @@ then_walk None walk = None
 then_walk (Some numbers) walk = walk numbers
 
 -- the groups that are open after some tokens
-unfoldable pub walk : List Token → List ℕ → Option (List ℕ)
+unfoldable pub walk : List Step → List ℕ → Option (List ℕ)
 unfolding then_walk
 walk [] numbers = Some numbers
 walk (token ∷ tokens) numbers = then_walk (next token numbers) (λ after. walk tokens after)
 
 -- the bytes of some tokens
-unfoldable pub bytes_of : List Token → List ℕ
+unfoldable pub bytes_of : List Step → List ℕ
 bytes_of [] = []
 bytes_of (token ∷ tokens) = token.bytes ++ bytes_of tokens
 
 -- these bytes are tokens that lead from some open groups to others
 pub record Leads (bytes : List ℕ) (old new : List ℕ) : Type 0 where
-  pub tokens : List Token
+  pub tokens : List Step
   pub is_whole : bytes ≡ bytes_of tokens
-  pub are_tokens : AllByRecursion IsToken tokens
+  pub are_tokens : AllByRecursion IsStep tokens
   pub leads : walk tokens old ≡ Some new
 
 -- no token at the front of these bytes may stand where these groups are open
 abbrev pub IsStuck : List ℕ → List ℕ → Type 0
-IsStuck numbers rest = (token : Token) → (after : List ℕ) → IsToken token → token.bytes ++ after ≡ rest → next token numbers ≡ None
+IsStuck numbers rest = (token : Step) → (after : List ℕ) → IsStep token → token.bytes ++ after ≡ rest → next token numbers ≡ None
 
 -- nothing is not something
 pub none_some : (x : List ℕ) → None ≡ Some x → ⊥
@@ -59,20 +59,20 @@ none_some x same = let no : false ≡ true = ap (λ found. elim found as (λ o. 
 pub some_same : (a b : List ℕ) → Some a ≡ Some b → a ≡ b
 some_same a b same = ap (λ found. elim found as (λ o. List ℕ) [ None ↦ [] | Some y ↦ y ]) same
 
-walk_step : (o : Option (List ℕ)) (tokens : List Token) (new : List ℕ) → then_walk o (λ after. walk tokens after) ≡ Some new →
+walk_step : (o : Option (List ℕ)) (tokens : List Step) (new : List ℕ) → then_walk o (λ after. walk tokens after) ≡ Some new →
     (mid : List ℕ) × ((o ≡ Some mid) × (walk tokens mid ≡ Some new))
 unfolding then_walk
 walk_step None tokens new leads = absurd (none_some new leads)
 walk_step (Some mid) tokens new leads = (mid, (refl, leads))
 
-token_same : (t u : Token) → t.bytes ≡ u.bytes → t.number ≡ u.number → t.kind ≡ u.kind → t ≡ u
+token_same : (t u : Step) → t.bytes ≡ u.bytes → t.number ≡ u.number → t.kind ≡ u.kind → t ≡ u
 token_same t u b n k =
     ap (λ bytes. record { bytes = bytes; number = t.number; kind = t.kind }) b
     ∙ ap (λ number. record { bytes = u.bytes; number = number; kind = t.kind }) n
     ∙ ap (λ kind. record { bytes = u.bytes; number = u.number; kind = kind }) k
 
 -- Two walks over the same bytes, each as far as it goes, end at one place with the same groups open.
-pub one_walk : (ts us : List Token) (start new other r q : List ℕ) → AllByRecursion IsToken ts → AllByRecursion IsToken us →
+pub one_walk : (ts us : List Step) (start new other r q : List ℕ) → AllByRecursion IsStep ts → AllByRecursion IsStep us →
     walk ts start ≡ Some new → walk us start ≡ Some other → bytes_of ts ++ r ≡ bytes_of us ++ q →
     IsStuck new r → IsStuck other q → (new ≡ other) × (r ≡ q)
 unfolding walk bytes_of
