@@ -1,5 +1,5 @@
 -- Bytes that come in pieces, and what feeding one gives.
-use Rattle.std.specs.Prelude.{◌≡◌, ℕ, List, ◌++◌, Option, Some, None, Result, Ok, Err}
+use Rattle.std.specs.Prelude.{◌≡◌, ℕ, List, ◌++◌, Option, Some, Result, Ok, Err}
 use Rattle.wire_format.specs.declared.fault.WireFault.{WireFault}
 use Rattle.wire_format.specs.Walks.{IsStayingFault, MayGoOn}
 use Rattle.wire_fields.specs.declared.pieces.PieceFault.{PieceFault}

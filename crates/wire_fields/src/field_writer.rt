@@ -80,7 +80,7 @@ impl FieldWriter {
     }
 }
 
-// Adds three texts of bytes at the end, or none of them.
+// Adds three texts of bytes at the end, or none of them: where there is room for all, nothing fails any more.
 fn append(bytes: &mut Vec<u8>, first: &[u8], second: &[u8], third: &[u8]) -> Result<(), NoMemory>
     requires { length first.now + length second.now + length third.now < 2 ^ 64 }
     ensures ok { OnOk result (bytes.new.items ≡ bytes.old.items ++ first.now ++ second.now ++ third.now) }

@@ -14,3 +14,4 @@ pub mod WalkLemmas
 pub mod StayingFaults
 pub mod OneFault
 pub mod OneField
+pub mod ListsOfFields

@@ -1,12 +1,12 @@
 -- Bytes have one fault at most.
-use Rattle.std.proofs.Common.{◌≡◌, ◌≢◌, ℕ, ◌+◌, ◌<◌, ◌≤◌, if◌then◌else◌, ◌==◌, nat_lt, List, [], ◌++◌, ◌⊎◌, inl, inr, length, refl, sym, ap, subst, ◌∙◌, arith}
+use Rattle.std.proofs.Common.{◌≡◌, ℕ, ◌+◌, ◌<◌, ◌≤◌, if◌then◌else◌, ◌==◌, nat_lt, List, [], ◌++◌, ◌⊎◌, inl, inr, length, refl, sym, ap, subst, ◌∙◌, arith}
 use Rattle.std.proofs.lemmas.Bool.Decides.{nat_tests}
 use Rattle.std.proofs.lemmas.List.{length-append}
 use Rattle.wire_format.specs.declared.fault.WireReason.{WireReason}
 use Rattle.wire_format.specs.declared.fault.WireReason.TheVariants.{Cut, LongVarint, BadKind, ZeroNumber, BigNumber, OpenGroup, StrayEnd, TooDeep}
 use Rattle.wire_format.specs.Varints.{IsLongVarint}
 use Rattle.wire_format.specs.Fields.{LAST_NUMBER}
-use Rattle.wire_format.specs.Faults.{IsNumber, IsLongBody, HasHeader, IsInnermost, IsFaultWithin}
+use Rattle.wire_format.specs.Faults.{IsNumber, HasHeader, IsInnermost, IsFaultWithin}
 use Rattle.wire_format.specs.Walks.{Stays}
 use Rattle.wire_format.specs.Laws.{BytesHaveOneFault}
 use Rattle.wire_format.proofs.TokenWalks.{one_walk}

@@ -1,25 +1,26 @@
 -- One field at most stands at the front of some bytes.
-use Rattle.std.proofs.Common.{◌≡◌, ℕ, ◌+◌, ◌*◌, ◌<◌, ◌≤◌, None, List, [], ◌∷◌, ◌++◌, length, take, drop, refl, sym, ap, subst, ◌∙◌, arith}
+use Rattle.std.proofs.Common.{◌≡◌, ℕ, ◌+◌, ◌*◌, ◌<◌, List, [], ◌++◌, length, take, drop, refl, sym, ap, subst, ◌∙◌, arith}
 use Rattle.std.proofs.lemmas.List.{append_assoc, length-append, length-take-le, take-append-drop}
 use Rattle.byteorder.specs.Endian.{little_number}
 use Rattle.wire_format.specs.declared.field.Payload.{Payload}
 use Rattle.wire_format.specs.declared.field.Payload.TheVariants.{Varint, Eight, Bytes, Group, Four}
-use Rattle.wire_format.specs.Fields.{IsHeader, IsPlain, IsPlainField, IsGroupOf, IsField, MayFill, header_kind}
-use Rattle.wire_format.specs.Laws.{HoldSame, OneFieldStandsAtAFront}
+use Rattle.wire_format.specs.Fields.{IsHeader, IsPlain, IsField, MayFill, header_kind}
+use Rattle.wire_format.specs.FieldLists.{HoldSame}
+use Rattle.wire_format.specs.Laws.{OneFieldStandsAtAFront}
 use Rattle.wire_format.proofs.OneReading.{varint_same, length_same}
-use Rattle.wire_format.proofs.TokenWalks.{Step, IsStep, IsStuck, next, one_walk}
+use Rattle.wire_format.proofs.TokenWalks.{Step, IsStep, IsStuck, one_walk}
 use Rattle.wire_format.proofs.Leading.{fields_lead}
 use Rattle.wire_format.proofs.NoFault.{next_end}
 
 -- the content of a group, and its end
-record IsRest (number : ℕ) (body content : List ℕ) : Type 0 where
+pub record IsRest (number : ℕ) (body content : List ℕ) : Type 0 where
   pub end : List ℕ
   pub is_whole : body ≡ content ++ end
   pub is_end : IsHeader end number 4
   pub is_filled : MayFill 32 content
 
 -- what follows the header of a field
-abbrev IsAfter : ℕ → List ℕ → Payload → Type 0
+abbrev pub IsAfter : ℕ → List ℕ → Payload → Type 0
 IsAfter number body (Varint value) = IsPlain body (Varint value)
 IsAfter number body (Eight value) = IsPlain body (Eight value)
 IsAfter number body (Bytes content) = IsPlain body (Bytes content)
@@ -27,14 +28,14 @@ IsAfter number body (Group content) = IsRest number body content.now
 IsAfter number body (Four value) = IsPlain body (Four value)
 
 -- a field as its header, and what follows that
-record Split (bytes : List ℕ) (number : ℕ) (payload : Payload) : Type 0 where
+pub record Split (bytes : List ℕ) (number : ℕ) (payload : Payload) : Type 0 where
   pub header : List ℕ
   pub body : List ℕ
   pub is_whole : bytes ≡ header ++ body
   pub is_header : IsHeader header number (header_kind payload)
   pub is_after : IsAfter number body payload
 
-split : (bytes : List ℕ) (number : ℕ) (payload : Payload) → IsField bytes number payload → Split bytes number payload
+pub split : (bytes : List ℕ) (number : ℕ) (payload : Payload) → IsField bytes number payload → Split bytes number payload
 split bytes number (Varint value) field = record { header = field.header; body = field.body; is_whole = field.is_whole; is_header = field.is_header; is_after = field.is_plain }
 split bytes number (Eight value) field = record { header = field.header; body = field.body; is_whole = field.is_whole; is_header = field.is_header; is_after = field.is_plain }
 split bytes number (Bytes content) field = record { header = field.header; body = field.body; is_whole = field.is_whole; is_header = field.is_header; is_after = field.is_plain }

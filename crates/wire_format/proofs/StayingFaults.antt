@@ -1,11 +1,11 @@
 -- Faults that no bytes to come can mend.
-use Rattle.std.proofs.Common.{◌≡◌, ◌≢◌, ℕ, ◌+◌, ◌*◌, ◌<◌, ◌≤◌, List, [], ◌∷◌, ◌++◌, ◌⊎◌, inl, inr, length, take, drop, refl, sym, ap, subst, ◌∙◌, arith}
+use Rattle.std.proofs.Common.{◌≡◌, ◌≢◌, ℕ, ◌+◌, ◌*◌, ◌<◌, ◌≤◌, List, [], ◌∷◌, ◌++◌, ◌⊎◌, inl, inr, length, take, drop, sym, ap, subst, ◌∙◌, arith}
 use Rattle.std.proofs.lemmas.List.{append_assoc, length-append, length-drop, take-append-drop, nil_from_length}
 use Rattle.wire_format.specs.declared.fault.WireReason.{WireReason}
 use Rattle.wire_format.specs.declared.fault.WireReason.TheVariants.{Cut, LongVarint, BadKind, ZeroNumber, BigNumber, OpenGroup, StrayEnd, TooDeep}
 use Rattle.wire_format.specs.Varints.{IsCutVarint, IsLongVarint}
 use Rattle.wire_format.specs.Fields.{LAST_NUMBER}
-use Rattle.wire_format.specs.Faults.{IsNumber, IsCutBody, IsLongBody, HasHeader, IsInnermost, IsFaultWithin, IsFault}
+use Rattle.wire_format.specs.Faults.{IsNumber, IsCutBody, IsLongBody, HasHeader, IsInnermost, IsFaultWithin}
 use Rattle.wire_format.specs.Walks.{Walked, IsWalkedOut, IsCutThere, Stays, MayGoOn}
 use Rattle.wire_format.specs.Laws.{StayingFaultsStay}
 use Rattle.wire_format.proofs.OneReading.{varint_same}

@@ -1,7 +1,7 @@
 -- What is written is read.
 use Rattle.std.proofs.Common.{◌≡◌, ℕ, zero, suc, ◌+◌, ◌*◌, ◌/◌, ◌%◌, ◌<◌, ◌≤◌, List, [], ◌∷◌, ◌++◌, ◌⊎◌, inl, inr, length, refl, sym, ap, subst, ◌∙◌, arith}
 use Rattle.std.proofs.lemmas.List.{append_assoc, length-append}
-use Rattle.wire_format.specs.Varints.{GoOn, groups_value, IsVarint}
+use Rattle.wire_format.specs.Varints.{GoOn, groups_value}
 use Rattle.wire_format.specs.Fields.{IsHeader}
 use Rattle.wire_format.specs.Faults.{IsNumber}
 use Rattle.wire_format.specs.Spellings.{least_groups, varint_of, header_of}

@@ -1,13 +1,15 @@
 -- What holds of all bytes, by the definitions alone.
 use Rattle.std.specs.Prelude.{◌≡◌, ℕ, ◌^◌, ◌<◌, ◌≤◌, List, ◌++◌, length}
 use Rattle.std.specs.Borrow.{Bor}
+use Rattle.wire_format.specs.declared.field.Field.{Field}
 use Rattle.wire_format.specs.declared.field.Payload.{Payload}
-use Rattle.wire_format.specs.declared.field.Payload.TheVariants.{Varint, Eight, Bytes, Group, Four}
+use Rattle.wire_format.specs.declared.field.Payload.TheVariants.{Varint, Bytes, Group}
 use Rattle.wire_format.specs.declared.fault.WireReason.{WireReason}
 use Rattle.wire_format.specs.Varints.{IsVarint}
 use Rattle.wire_format.specs.Fields.{MAX_NESTING, IsField, IsFieldAt, AreFields, MayFill}
 use Rattle.wire_format.specs.Faults.{IsNumber, IsFault}
 use Rattle.wire_format.specs.Walks.{Stays}
+use Rattle.wire_format.specs.FieldLists.{AreTheseFields, HoldSame, AreAllSame}
 use Rattle.wire_format.specs.Spellings.{varint_of, varint_field, bytes_field, group_field}
 
 -- bytes that are fields have no fault
@@ -20,21 +22,22 @@ BytesHaveOneFault =
     (bytes : List ℕ) → (reason other : WireReason) → (place second : ℕ) → IsFault bytes reason place → IsFault bytes other second →
     (reason ≡ other) × (place ≡ second)
 
--- two fields hold the same
-abbrev pub HoldSame : Payload → Payload → Type 0
-HoldSame (Varint value) (Varint other) = value ≡ other
-HoldSame (Eight value) (Eight other) = value ≡ other
-HoldSame (Bytes content) (Bytes other) = content.now ≡ other.now
-HoldSame (Group content) (Group other) = content.now ≡ other.now
-HoldSame (Four value) (Four other) = value ≡ other
-HoldSame _ _ = ⊥
-
 -- one field at most stands at the front of some bytes
 abbrev pub OneFieldStandsAtAFront : Type 0
 OneFieldStandsAtAFront =
     (bytes : List ℕ) → (size other_size number other_number : ℕ) → (payload other : Payload) →
     IsFieldAt bytes size number payload → IsFieldAt bytes other_size other_number other →
     (size ≡ other_size) × (number ≡ other_number) × HoldSame payload other
+
+-- bytes are one list of fields at most
+abbrev pub BytesAreOneList : Type 0
+BytesAreOneList =
+    (fields others : List Field) → (at : ℕ) → (bytes : List ℕ) → AreTheseFields fields at bytes → AreTheseFields others at bytes →
+    AreAllSame fields others
+
+-- bytes that are a list of fields are fields
+abbrev pub ListsAreFields : Type 0
+ListsAreFields = (fields : List Field) → (at : ℕ) → (bytes : List ℕ) → AreTheseFields fields at bytes → AreFields bytes
 
 -- a fault that stays is one of all longer bytes too
 abbrev pub StayingFaultsStay : Type 0

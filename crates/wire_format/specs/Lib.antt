@@ -2,6 +2,7 @@ pub mod Varints
 pub mod Fields
 pub mod Faults
 pub mod Walks
+pub mod FieldLists
 pub mod Laws
 pub mod Tokens
 pub mod Groups

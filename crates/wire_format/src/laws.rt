@@ -1,5 +1,5 @@
 //! What holds of all bytes, by the definitions alone.
-ghost use Rattle.wire_format.specs.Laws.{FieldsHaveNoFault, BytesHaveOneFault, OneFieldStandsAtAFront, StayingFaultsStay, LeastVarintsAreVarints, LeastVarintsAreShortest, VarintFieldsAreFields, BytesFieldsAreFields, GroupFieldsAreFields};
+ghost use Rattle.wire_format.specs.Laws.{FieldsHaveNoFault, BytesHaveOneFault, OneFieldStandsAtAFront, BytesAreOneList, ListsAreFields, StayingFaultsStay, LeastVarintsAreVarints, LeastVarintsAreShortest, VarintFieldsAreFields, BytesFieldsAreFields, GroupFieldsAreFields};
 
 /// Bytes that are fields have no fault: a reader that tells one has not met such bytes.
 pub fn fields_have_no_fault()
@@ -14,6 +14,12 @@ pub fn bytes_have_one_fault()
 /// One field at most stands at the front of some bytes, so that a field that is read is the one that was written.
 pub fn one_field_stands_at_a_front()
     ensures { OneFieldStandsAtAFront }
+{}
+
+/// Bytes are one list of fields at most, and then they are fields.
+pub fn bytes_are_one_list()
+    ensures one { BytesAreOneList }
+    ensures are_fields { ListsAreFields }
 {}
 
 /// A fault that no bytes to come can mend is the fault of all longer bytes too.

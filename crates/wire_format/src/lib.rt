@@ -1,4 +1,5 @@
-//! The wire format of Protocol Buffers: which bytes are a list of fields, and reading them one by one.
+//! The wire format of Protocol Buffers: which bytes are a list of fields, reading them one by one or as they come in
+//! pieces, and how they are written.
 #![tactic(auto)]
 
 mod fault;
@@ -15,7 +16,7 @@ mod walk;
 pub use fault::{WireFault, WireReason};
 pub use field::{Field, Payload};
 pub use laws::{
-    bytes_have_one_fault, fields_have_no_fault, least_varints_are_shortest,
+    bytes_are_one_list, bytes_have_one_fault, fields_have_no_fault, least_varints_are_shortest,
     one_field_stands_at_a_front, staying_faults_stay, written_fields_are_fields,
 };
 pub use reader::FieldReader;

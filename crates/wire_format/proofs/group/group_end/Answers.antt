@@ -1,4 +1,4 @@
-use Rattle.std.proofs.Common.{◌≡◌, ◌+◌, [], ◌∷◌, length, take, drop, refl, sym, ap, subst, arith}
+use Rattle.std.proofs.Common.{◌≡◌, ◌+◌, [], length, take, drop, refl, sym, subst, arith}
 use Rattle.std.proofs.lemmas.List.{length-drop, nil_from_length}
 use Rattle.wire_format.specs.declared.fault.WireReason.TheVariants.{OpenGroup, StrayEnd, TooDeep}
 use Rattle.wire_format.specs.Faults.{IsTokenFault, IsFault}

@@ -1,4 +1,4 @@
-use Rattle.std.proofs.Common.{◌≡◌, ℕ, List, ◌++◌, ap, subst, ◌∙◌}
+use Rattle.std.proofs.Common.{ℕ, List, ◌++◌, ap, subst, ◌∙◌}
 use Rattle.wire_format.specs.Walks.{MayGoOn}
 use Rattle.wire_fields.specs.Feeding.{Fed}
 use Rattle.wire_fields.proofs.pieces.Pieces.feed.Goals as goal

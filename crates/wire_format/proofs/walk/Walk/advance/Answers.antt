@@ -1,4 +1,4 @@
-use Rattle.std.proofs.Common.{◌≡◌, ◌+◌, ◌-◌, length, take, drop, refl, sym, ap, subst, ◌∙◌, true, false, rules, arith}
+use Rattle.std.proofs.Common.{◌≡◌, sym, ap, subst, ◌∙◌, true, false, rules, arith}
 use denote.Enum.Bare.{sameb, same_true}
 use Rattle.wire_format.specs.contracts.fault.WireReason.{the_type}
 use Rattle.wire_format.specs.declared.fault.WireReason.{WireReason}
