@@ -8,6 +8,7 @@ use Rattle.wire_format.specs.declared.field.Payload.TheVariants.{Varint, Eight, 
 use Rattle.wire_format.specs.Fields.{IsHeader, IsPlainField, IsSomeGroup, IsSomeField, AreFieldsOf, MayFill}
 use Rattle.wire_format.specs.Faults.{AreOpen}
 use Rattle.wire_format.proofs.OneReading.{IsPiece}
+use Rattle.wire_format.proofs.Nesting.{all_join}
 use Rattle.wire_format.proofs.TokenWalks.{Step, IsStep, next, then_walk, walk, bytes_of, Leads, none_some, some_same}
 
 walk_on : (o : Option (List ℕ)) (ts us : List Step) (mid new : List ℕ) →
@@ -29,10 +30,6 @@ unfolding bytes_of
 bytes_join [] us = refl
 bytes_join (t ∷ ts) us = ap (λ rest. t.bytes ++ rest) (bytes_join ts us) ∙ sym (append_assoc t.bytes (bytes_of ts) (bytes_of us))
 
-all_join : (ts us : List Step) → AllByRecursion IsStep ts → AllByRecursion IsStep us → AllByRecursion IsStep (ts ++ us)
-all_join [] us first second = second
-all_join (t ∷ ts) us first second = (first.0, all_join ts us first.1 second)
-
 -- no token
 pub leads_none : (numbers : List ℕ) → Leads [] numbers numbers
 unfolding walk bytes_of
@@ -44,7 +41,7 @@ leads_join a b old mid new la lb = record {
   tokens = la.tokens ++ lb.tokens;
   is_whole = ap (λ front. front ++ b) la.is_whole ∙ ap (λ back. bytes_of la.tokens ++ back) lb.is_whole
       ∙ sym (bytes_join la.tokens lb.tokens);
-  are_tokens = all_join la.tokens lb.tokens la.are_tokens lb.are_tokens;
+  are_tokens = all_join IsStep la.tokens lb.tokens la.are_tokens lb.are_tokens;
   leads = walk_join la.tokens lb.tokens old mid new la.leads lb.leads;
 }
 

@@ -15,3 +15,4 @@ pub mod StayingFaults
 pub mod OneFault
 pub mod OneField
 pub mod ListsOfFields
+pub mod Joining

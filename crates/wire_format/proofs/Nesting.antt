@@ -5,27 +5,34 @@ use Rattle.std.proofs.lemmas.List.{append_assoc, append-nil}
 use Rattle.wire_format.specs.Fields.{IsHeader, IsSomePlain, IsSomeGroup, IsSomeField, AreFieldsOf, MayFill}
 use Rattle.wire_format.specs.Faults.{AreOpen}
 
-concat_more : (pieces : List (List ℕ)) (piece : List ℕ) → concat (pieces ++ piece ∷ []) ≡ concat pieces ++ piece
-concat_more [] piece = append-nil piece
-concat_more (first ∷ pieces) piece =
-    ap (λ rest. first ++ rest) (concat_more pieces piece) ∙ sym (append_assoc first (concat pieces) piece)
+concat_join : (pieces more : List (List ℕ)) → concat (pieces ++ more) ≡ concat pieces ++ concat more
+concat_join [] more = refl
+concat_join (piece ∷ pieces) more =
+    ap (λ rest. piece ++ rest) (concat_join pieces more) ∙ sym (append_assoc piece (concat pieces) (concat more))
 
-all_more : {A : Type 0} (P : A → Type 0) (xs : List A) (x : A) → AllByRecursion P xs → P x → AllByRecursion P (xs ++ x ∷ [])
-all_more P [] x all last = (last, tt)
-all_more P (y ∷ xs) x all last = (all.0, all_more P xs x all.1 last)
+-- what holds of all of two lists holds of all of them together
+pub all_join : {A : Type 0} (P : A → Type 0) (xs ys : List A) → AllByRecursion P xs → AllByRecursion P ys → AllByRecursion P (xs ++ ys)
+all_join P [] ys first second = second
+all_join P (x ∷ xs) ys first second = (first.0, all_join P xs ys first.1 second)
 
 -- no bytes are no fields
 pub no_fields : (Fill : List ℕ → Type 0) → AreFieldsOf Fill []
 no_fields Fill = record { pieces = []; is_whole = refl; are_fields = tt }
 
+-- fields after fields
+pub fields_join : (Fill : List ℕ → Type 0) (bytes more : List ℕ) → AreFieldsOf Fill bytes → AreFieldsOf Fill more → AreFieldsOf Fill (bytes ++ more)
+fields_join Fill bytes more first second = record {
+  pieces = first.pieces ++ second.pieces;
+  is_whole = ap (λ front. front ++ more) first.is_whole ∙ ap (λ back. concat first.pieces ++ back) second.is_whole
+      ∙ sym (concat_join first.pieces second.pieces);
+  are_fields = all_join (IsSomeField Fill) first.pieces second.pieces first.are_fields second.are_fields;
+}
+
 -- one field more
 pub fields_more : (Fill : List ℕ → Type 0) (bytes piece : List ℕ) → AreFieldsOf Fill bytes → IsSomeField Fill piece →
     AreFieldsOf Fill (bytes ++ piece)
-fields_more Fill bytes piece fields field = record {
-  pieces = fields.pieces ++ piece ∷ [];
-  is_whole = ap (λ front. front ++ piece) fields.is_whole ∙ sym (concat_more fields.pieces piece);
-  are_fields = all_more (IsSomeField Fill) fields.pieces piece fields.are_fields field;
-}
+fields_more Fill bytes piece fields field =
+    fields_join Fill bytes piece fields (record { pieces = piece ∷ []; is_whole = sym (append-nil piece); are_fields = (field, tt) })
 
 inside_more : (bytes before start inside piece : List ℕ) → bytes ≡ before ++ start ++ inside →
     bytes ++ piece ≡ before ++ start ++ (inside ++ piece)

@@ -1,5 +1,5 @@
 -- What holds of all bytes, by the definitions alone.
-use Rattle.std.specs.Prelude.{◌≡◌, ℕ, ◌^◌, ◌<◌, ◌≤◌, List, ◌++◌, length}
+use Rattle.std.specs.Prelude.{◌≡◌, ℕ, ◌+◌, ◌^◌, ◌<◌, ◌≤◌, List, ◌++◌, length}
 use Rattle.std.specs.Borrow.{Bor}
 use Rattle.wire_format.specs.declared.field.Field.{Field}
 use Rattle.wire_format.specs.declared.field.Payload.{Payload}
@@ -15,6 +15,16 @@ use Rattle.wire_format.specs.Spellings.{varint_of, varint_field, bytes_field, gr
 -- bytes that are fields have no fault
 abbrev pub FieldsHaveNoFault : Type 0
 FieldsHaveNoFault = (bytes : List ℕ) → (reason : WireReason) → (place : ℕ) → AreFields bytes → IsFault bytes reason place → ⊥
+
+-- fields before fields are fields
+abbrev pub FieldsJoin : Type 0
+FieldsJoin = (bytes more : List ℕ) → AreFields bytes → AreFields more → AreFields (bytes ++ more)
+
+-- fields before a fault move its place
+abbrev pub FaultsMove : Type 0
+FaultsMove =
+    (front bytes : List ℕ) → (reason : WireReason) → (place : ℕ) → AreFields front → IsFault bytes reason place →
+    IsFault (front ++ bytes) reason (length front + place)
 
 -- bytes have one fault at most
 abbrev pub BytesHaveOneFault : Type 0

@@ -1,9 +1,15 @@
 //! What holds of all bytes, by the definitions alone.
-ghost use Rattle.wire_format.specs.Laws.{FieldsHaveNoFault, BytesHaveOneFault, OneFieldStandsAtAFront, BytesAreOneList, ListsAreFields, StayingFaultsStay, LeastVarintsAreVarints, LeastVarintsAreShortest, VarintFieldsAreFields, BytesFieldsAreFields, GroupFieldsAreFields};
+ghost use Rattle.wire_format.specs.Laws.{FieldsHaveNoFault, FieldsJoin, FaultsMove, BytesHaveOneFault, OneFieldStandsAtAFront, BytesAreOneList, ListsAreFields, StayingFaultsStay, LeastVarintsAreVarints, LeastVarintsAreShortest, VarintFieldsAreFields, BytesFieldsAreFields, GroupFieldsAreFields};
 
 /// Bytes that are fields have no fault: a reader that tells one has not met such bytes.
 pub fn fields_have_no_fault()
     ensures { FieldsHaveNoFault }
+{}
+
+/// Fields may be read one after another: together they are fields, and what follows them has its own fault.
+pub fn fields_join()
+    ensures fields { FieldsJoin }
+    ensures faults { FaultsMove }
 {}
 
 /// Bytes have one fault at most, so that a fault that is told is the one.

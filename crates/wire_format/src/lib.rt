@@ -16,8 +16,9 @@ mod walk;
 pub use fault::{WireFault, WireReason};
 pub use field::{Field, Payload};
 pub use laws::{
-    bytes_are_one_list, bytes_have_one_fault, fields_have_no_fault, least_varints_are_shortest,
-    one_field_stands_at_a_front, staying_faults_stay, written_fields_are_fields,
+    bytes_are_one_list, bytes_have_one_fault, fields_have_no_fault, fields_join,
+    least_varints_are_shortest, one_field_stands_at_a_front, staying_faults_stay,
+    written_fields_are_fields,
 };
 pub use reader::FieldReader;
 pub use spelling::{

@@ -204,6 +204,7 @@ fn a_fault_is_shown_with_its_place(rt: HostRuntime) -> Result<(), Fail> {
 #[test]
 fn has_laws() {
     fields_have_no_fault();
+    fields_join();
     bytes_have_one_fault();
     bytes_are_one_list();
     one_field_stands_at_a_front();
