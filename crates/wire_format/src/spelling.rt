@@ -43,7 +43,8 @@ pub fn varint_len(value: u64) -> usize
 
 /// How many bytes a field has, as it is written, that holds this varint.
 pub fn varint_field_len(number: u32, value: u64) -> usize
-    ensures { result ≡ length (varint_field number value) }
+    ensures is_length { result ≡ length (varint_field number value) }
+    ensures at_most_twenty { result ≤ 20 }
 {
     header_len(number, 0) + varint_len(value)
 }
@@ -51,7 +52,8 @@ pub fn varint_field_len(number: u32, value: u64) -> usize
 /// How many bytes a field has, as it is written, that holds so many bytes.
 pub fn bytes_field_len(number: u32, content_len: usize) -> usize
     requires { content_len < 2 ^ 63 }
-    ensures { (content : List ℕ) → length content ≡ content_len → result ≡ length (bytes_field number content) }
+    ensures is_length { (content : List ℕ) → length content ≡ content_len → result ≡ length (bytes_field number content) }
+    ensures at_most_twenty_more { result ≤ content_len + 20 }
 {
     header_len(number, 2) + varint_len(content_len as u64) + content_len
 }
@@ -59,7 +61,8 @@ pub fn bytes_field_len(number: u32, content_len: usize) -> usize
 /// How many bytes a group has, as it is written, whose content has so many.
 pub fn group_field_len(number: u32, content_len: usize) -> usize
     requires { content_len < 2 ^ 63 }
-    ensures { (content : List ℕ) → length content ≡ content_len → result ≡ length (group_field number content) }
+    ensures is_length { (content : List ℕ) → length content ≡ content_len → result ≡ length (group_field number content) }
+    ensures at_most_twenty_more { result ≤ content_len + 20 }
 {
     header_len(number, 3) + content_len + header_len(number, 4)
 }
