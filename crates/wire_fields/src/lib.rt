@@ -14,9 +14,9 @@ pub use octets::Octets;
 pub use pieces::{PieceFault, Pieces};
 pub use wire_format::{
     Field, FieldReader, Payload, Walk, WireFault, WireReason, bytes_are_one_list, bytes_field_len,
-    bytes_have_one_fault, fields_have_no_fault, fields_join, group_field_len, least_varints_are_shortest,
-    one_field_stands_at_a_front, spell_header, spell_varint, staying_faults_stay, varint_field_len,
-    varint_len, written_fields_are_fields,
+    bytes_have_one_fault, fields_have_no_fault, fields_join, group_field_len,
+    least_varints_are_shortest, one_field_stands_at_a_front, spell_header, spell_varint,
+    staying_faults_stay, varint_field_len, varint_len, written_fields_are_fields,
 };
 
 #[cfg(test)]
