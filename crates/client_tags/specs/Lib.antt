@@ -1,2 +1,4 @@
+pub mod Kinds
 pub mod Tags
+pub mod Hashes
 pub mod Laws

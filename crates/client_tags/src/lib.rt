@@ -1,9 +1,15 @@
-//! The types of entities, and the tags by which two devices know that they speak of the same one.
+//! The types of entities, and the tags and hashes by which two devices know that they speak of the same one.
 #![tactic(auto)]
 
+ghost use Rattle.std.specs.Prelude.{◌≡◌, ◌↔◌, ◌≢◌, Some, IfNone};
+ghost use Rattle.client_tags.specs.declared.Kind.{Kind};
+ghost use Rattle.client_tags.specs.Kinds.{kind_number};
+
+mod hash;
 mod memory;
 mod tag;
 
+pub use hash::{TagHash, tag_hash};
 pub use memory::NoMemory;
 pub use tag::{nigori_tag, password_tag, tags_tell_logins};
 
@@ -17,4 +23,30 @@ pub enum Kind {
     Nigori,
     Preference,
     Password,
+}
+
+impl Kind {
+    /// The number by which messages name the type: that of its field in an entity's specifics.
+    pub fn number(&self) -> u32
+        ensures { result ≡ kind_number self.now }
+    {
+        match self {
+            Kind::Nigori => 47745,
+            Kind::Preference => 37702,
+            Kind::Password => 45873,
+        }
+    }
+
+    /// The type of a number, if it is that of one of these.
+    pub fn from_number(number: u64) -> Option<Kind>
+        ensures found { (kind : Kind) → (result ≡ Some kind) ↔ (number ≡ kind_number kind) }
+        ensures none { IfNone result ((kind : Kind) → number ≢ kind_number kind) }
+    {
+        match number {
+            47745 => Some(Kind::Nigori),
+            37702 => Some(Kind::Preference),
+            45873 => Some(Kind::Password),
+            _ => None,
+        }
+    }
 }
