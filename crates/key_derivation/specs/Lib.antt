@@ -1,0 +1,4 @@
+pub mod DerivedKeys
+pub mod Hmac
+pub mod Keyed
+pub mod Pbkdf2

@@ -1,0 +1,73 @@
+// PBKDF2 (RFC 8018, 5.2) with HMAC-SHA-1 as its pseudorandom function.
+
+ghost use Rattle.std.specs.Prelude.{◌≡◌, ℕ, ◌^◌, ◌<◌, ◌≤◌, List, [], length};
+ghost use Rattle.sha1.specs.Sha1.{sha1};
+ghost use Rattle.key_derivation.specs.Hmac.{hmac};
+ghost use Rattle.key_derivation.specs.Keyed.{Holds};
+ghost use Rattle.key_derivation.specs.Pbkdf2.{block_of, first_text, pbkdf2, xor_bytes};
+
+use crate::hmac::HmacSha1;
+
+// The length of a digest of SHA-1, and so of a block.
+const DIGEST_LEN: usize = 20;
+
+/// Fills `out` with the key that PBKDF2 (RFC 8018, 5.2) derives from a password and a salt, with
+/// HMAC-SHA-1 and so many turns.
+///
+/// It hashes the password once, and for each started 20 bytes of `out` two blocks of 64 bytes a turn.
+pub fn pbkdf2(pass: &[u8], salt: &[u8], turns: u32, out: &mut [u8])
+    requires some_turn { 1 ≤ turns }
+    requires short { length out.old ≤ 1024 }
+    ensures { out.new ≡ pbkdf2 pass.now salt.now turns (length out.old) }
+{
+    let keyed = HmacSha1::new(pass);
+    let count = out.len().div_ceil(DIGEST_LEN);
+    for index in 0..count {
+        let block = derived_block(&keyed, salt, turns, index as u32 + 1);
+        let begin = DIGEST_LEN * index;
+        let size = DIGEST_LEN.min(out.len() - begin);
+        out[begin..begin + size].copy_from_slice(&block[..size]);
+    }
+}
+
+// Block `number` of the derived key, from the state of the empty text under the password.
+fn derived_block(keyed: &HmacSha1, salt: &[u8], turns: u32, number: u32) -> [u8; DIGEST_LEN]
+    requires { 1 ≤ turns }
+    ensures { (pass : List ℕ) → Holds keyed.now pass [] → result ≡ block_of pass salt.now turns number }
+{
+    let mut value = first_turn(keyed, salt, number);
+    let mut block = value;
+    for _turn in 1..turns {
+        value = next_turn(keyed, &value);
+        xor_into(&mut block, &value);
+    }
+    block
+}
+
+// U_1: the HMAC of the salt and the block's number.
+fn first_turn(keyed: &HmacSha1, salt: &[u8], number: u32) -> [u8; DIGEST_LEN]
+    ensures { (pass : List ℕ) → Holds keyed.now pass [] → result ≡ hmac sha1 pass (first_text salt.now number) }
+{
+    let mut mac = keyed.copy();
+    mac.update(salt);
+    mac.update(&number.to_be_bytes());
+    mac.finalize()
+}
+
+// U_n from the one before it.
+fn next_turn(keyed: &HmacSha1, value: &[u8; DIGEST_LEN]) -> [u8; DIGEST_LEN]
+    ensures { (pass : List ℕ) → Holds keyed.now pass [] → result ≡ hmac sha1 pass value.now }
+{
+    let mut mac = keyed.copy();
+    mac.update(value);
+    mac.finalize()
+}
+
+// Xors `value` onto `block`, byte by byte.
+fn xor_into(block: &mut [u8; DIGEST_LEN], value: &[u8; DIGEST_LEN])
+    ensures { block.new ≡ xor_bytes block.old value.now }
+{
+    for index in 0..DIGEST_LEN {
+        block[index] ^= value[index];
+    }
+}
