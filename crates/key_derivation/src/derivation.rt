@@ -11,7 +11,9 @@ const SALT: &[u8; 16] = b"sync-salt-16byte";
 
 // The numbers of turns from which each key comes.
 const USER_TURNS: u32 = 1002;
+
 const ENC_TURNS: u32 = 1003;
+
 const MAC_TURNS: u32 = 1004;
 
 /// The keys of a passphrase: PBKDF2 of it and one fixed salt, with 1002, 1003 and 1004 turns.

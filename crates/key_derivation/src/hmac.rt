@@ -13,6 +13,7 @@ const BLOCK_LEN: usize = 64;
 
 // The bytes of ipad and of opad.
 const INNER_PAD: u8 = 0x36;
+
 const OUTER_PAD: u8 = 0x5c;
 
 /// HMAC-SHA-1 (RFC 2104) of a text, under a key of any length.

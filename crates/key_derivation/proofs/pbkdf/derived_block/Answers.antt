@@ -22,9 +22,9 @@ loop-turn-preserved c pass holds =
     record {
       value = value;
       block = c.xor_into.ensures
-      ∙ ap (λ (block : List ℕ). xor_bytes block c.next_turn-value.result) before.block
-      ∙ ap (xor_bytes (xor_of_turns prf text c.loop-turn._turn)) value
-      ∙ sym (xor_of_turns_more prf text c.loop-turn._turn c.loop-turn.auto._turn);
+          ∙ ap (λ (block : List ℕ). xor_bytes block c.next_turn-value.result) before.block
+          ∙ ap (xor_bytes (xor_of_turns prf text c.loop-turn._turn)) value
+          ∙ sym (xor_of_turns_more prf text c.loop-turn._turn c.loop-turn.auto._turn);
     }
 
 pub returns : goal.returns

@@ -18,10 +18,10 @@ loop-index-preserved c =
     let more = blocks_more c.args.pass.now c.args.salt.now c.args.turns index in
     record {
       filled =
-      filled_more c.loop-index.out before block c.copy_from_slice.new.self index total c.min-size.result _
-      c.loop-index.auto.out inside is_size (omega arith) c.loop-index.invariant.long long_block
-      (c.copy_from_slice.ensures.after ∙ ap (take c.min-size.result) is_block) c.loop-index.invariant.filled
-      ∙ ap (take total) (sym more);
+          filled_more c.loop-index.out before block c.copy_from_slice.new.self index total c.min-size.result _
+          c.loop-index.auto.out inside is_size (omega arith) c.loop-index.invariant.long long_block
+          (c.copy_from_slice.ensures.after ∙ ap (take c.min-size.result) is_block) c.loop-index.invariant.filled
+          ∙ ap (take total) (sym more);
       long = ap length more ∙ length-append before block ∙ omega (arith, c.loop-index.invariant.long, long_block);
     }
 
