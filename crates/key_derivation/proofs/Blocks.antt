@@ -1,5 +1,5 @@
 -- The blocks of PBKDF2, one after the other.
-use Rattle.std.proofs.Common.{◌≡◌, ℕ, zero, suc, slice_index, ◌+◌, ◌-◌, ◌*◌, ◌<◌, ◌≤◌, List, [], ◌∷◌, ◌++◌, min, length, take, drop, map, lit<, refl, ap, sym, ◌∙◌, arith, length-append, length-drop}
+use Rattle.std.proofs.Common.{◌≡◌, ℕ, zero, suc, slice_index, ◌+◌, ◌-◌, ◌*◌, ◌<◌, List, [], ◌∷◌, ◌++◌, min, length, take, drop, map, lit<, refl, ap, sym, ◌∙◌, arith, length-append, length-drop}
 use Rattle.std.specs.List.{flat_map, range_with_len}
 use Rattle.std.specs.Int.{w32, to_be_bytes, div_ceil}
 use Rattle.sha1.specs.Sha1.{sha1, digest_bytes}
@@ -14,6 +14,7 @@ use borrow.Rule.Slice.PartMut.{put_mid, same_len_mid}
 use Rattle.key_derivation.specs.Pbkdf2.{first_text, block_of, blocks, pbkdf2}
 use Rattle.key_derivation.proofs.Turns.{length-xor_of_turns}
 
+-- so many words of a hash value are four times as many bytes
 length-digest_bytes : (h : List ℕ) (n : ℕ) → length (digest_bytes h n) ≡ 4 * n
 unfolding digest_bytes
 length-digest_bytes h zero = refl
@@ -21,11 +22,12 @@ length-digest_bytes h (suc n) =
     let last : length (to_be_bytes w32 (slice_index h n)) ≡ 4 = refl in
     omega (arith, length-append (digest_bytes h n) (to_be_bytes w32 (slice_index h n)), last, length-digest_bytes h n)
 
+-- HMAC-SHA-1 has the length of a digest
 length-hmac : (key text : List ℕ) → length (hmac sha1 key text) ≡ 20
 unfolding hmac sha1
 length-hmac key text = length-digest_bytes _ 5
 
--- a block has the length of a digest
+-- and so has a block
 pub length-block_of : (pass salt : List ℕ) (turns number : ℕ) → length (block_of pass salt turns number) ≡ 20
 length-block_of pass salt turns number =
     length-xor_of_turns (hmac sha1 pass) (first_text salt number) (length-hmac pass) turns

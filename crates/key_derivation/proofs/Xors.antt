@@ -1,11 +1,10 @@
 -- Bytes xored in place, one after the other.
-use Rattle.std.proofs.Common.{◌≡◌, ℕ, zero, suc, ◌+◌, ◌<◌, List, [], ◌∷◌, length, map, get_or, bit_xor, refl, ap, sym, ◌∙◌, arith}
+use Rattle.std.proofs.Common.{◌≡◌, ℕ, zero, suc, ◌+◌, ◌<◌, ◌≤◌, List, [], ◌∷◌, length, get_or, bit_xor, refl, ap, sym, ◌∙◌, arith}
 use Rattle.std.proofs.Math.ListN.{set}
-use Rattle.std.specs.List.{zip}
 use Rattle.std.proofs.lemmas.List.{length-map, get_or-map}
 use Rattle.key_derivation.specs.Hmac.{xored}
 use Rattle.key_derivation.specs.Pbkdf2.{xor_bytes}
-use Rattle.key_derivation.proofs.Writes.{replaced, replaced_at, replaced_more}
+use Rattle.key_derivation.proofs.Writes.{replaced, replaced_at, replaced_more, replaced_all}
 
 -- two lists of one length xored are as long
 pub length-xor_bytes : (xs ys : List ℕ) → length ys ≡ length xs → length (xor_bytes xs ys) ≡ length xs
@@ -48,3 +47,8 @@ xor_bytes_more xs ys items place inside same is_items =
     ∙ sym (get_or-xor_bytes xs ys place inside same) in
     ap (λ (list : List ℕ). set list place byte) is_items
     ∙ replaced_more xs (xor_bytes xs ys) place byte inside long value
+
+-- at the end all bytes are xored
+pub xor_bytes_all : (xs ys : List ℕ) (place : ℕ) → length xs ≤ place → length ys ≡ length xs →
+    replaced xs (xor_bytes xs ys) place ≡ xor_bytes xs ys
+xor_bytes_all xs ys place past same = replaced_all xs (xor_bytes xs ys) place past (length-xor_bytes xs ys same)

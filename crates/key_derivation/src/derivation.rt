@@ -18,7 +18,8 @@ const MAC_TURNS: u32 = 1004;
 
 /// The keys of a passphrase: PBKDF2 of it and one fixed salt, with 1002, 1003 and 1004 turns.
 ///
-/// It hashes some 6,000 blocks of 64 bytes, which takes a few milliseconds.
+/// It hashes some 6,000 blocks of 64 bytes.
+#[tactic(auto, unfolding(crate::specs::DerivedKeys::salt, crate::specs::DerivedKeys::derive_key))]
 pub fn derive(pass: &[u8]) -> NigoriKey
     ensures { result ≡ derive_key pass.now }
 {

@@ -18,7 +18,7 @@ const OUTER_PAD: u8 = 0x5c;
 
 /// HMAC-SHA-1 (RFC 2104) of a text, under a key of any length.
 ///
-/// It hashes the text, the key and three more blocks of 64 bytes.
+/// It hashes the text and three blocks of 64 bytes, and before them a key that is longer than one.
 pub fn hmac_sha1(key: &[u8], text: &[u8]) -> [u8; 20]
     ensures { result ≡ hmac sha1 key.now text.now }
 {
@@ -29,7 +29,8 @@ pub fn hmac_sha1(key: &[u8], text: &[u8]) -> [u8; 20]
 
 /// HMAC-SHA-256 (RFC 2104) of a text, under a key of any length.
 ///
-/// It hashes the text, the key and three more blocks of 64 bytes.
+/// It hashes the text and three blocks of 64 bytes, and before them a key that is longer than one.
+#[tactic(auto, unfolding(crate::specs::Hmac::hmac, crate::specs::Hmac::inner_key, crate::specs::Hmac::outer_key))]
 pub fn hmac_sha256(key: &[u8], text: &[u8]) -> [u8; 32]
     ensures { result ≡ hmac sha256 key.now text.now }
 {
@@ -57,6 +58,7 @@ impl HmacSha1 {
     ghost use Rattle.key_derivation.specs.Keyed.{Holds};
 
     // The state of the empty text under a key.
+    #[tactic(auto, unfolding(crate::specs::Hmac::inner_key, crate::specs::Hmac::outer_key))]
     pub(crate) fn new(key: &[u8]) -> HmacSha1
         ensures { Holds result key.now [] }
     {
@@ -86,6 +88,7 @@ impl HmacSha1 {
     }
 
     // The HMAC of the text.
+    #[tactic(auto, unfolding(crate::specs::Hmac::hmac))]
     pub(crate) fn finalize(self) -> [u8; 20]
         ensures { (key text : List ℕ) → Holds self key text → result ≡ hmac sha1 key text }
     {
@@ -128,6 +131,7 @@ fn zero_padded(bytes: &[u8]) -> [u8; BLOCK_LEN]
 }
 
 // A block with each of its bytes xored with the pad's.
+#[tactic(auto, using(crate::proofs::Xors::xored_more, crate::proofs::Writes::replaced_all))]
 fn xored(block: &[u8; BLOCK_LEN], pad: u8) -> [u8; BLOCK_LEN]
     ensures { result ≡ xored block.now pad }
 {

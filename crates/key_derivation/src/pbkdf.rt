@@ -11,10 +11,10 @@ use crate::hmac::HmacSha1;
 // The length of a digest of SHA-1, and so of a block.
 const DIGEST_LEN: usize = 20;
 
-/// Fills `out` with the key that PBKDF2 (RFC 8018, 5.2) derives from a password and a salt, with
-/// HMAC-SHA-1 and so many turns.
+/// Fills `out` with the key that PBKDF2 (RFC 8018, 5.2) with HMAC-SHA-1 derives from a password, a
+/// salt and an iteration count, the number of turns.
 ///
-/// It hashes the password once, and for each started 20 bytes of `out` two blocks of 64 bytes a turn.
+/// It hashes the password once, and two blocks of 64 bytes a turn for each started 20 bytes of `out`.
 pub fn pbkdf2(pass: &[u8], salt: &[u8], turns: u32, out: &mut [u8])
     requires some_turn { 1 ≤ turns }
     requires short { length out.old ≤ 1024 }
@@ -64,6 +64,7 @@ fn next_turn(keyed: &HmacSha1, value: &[u8; DIGEST_LEN]) -> [u8; DIGEST_LEN]
 }
 
 // Xors `value` onto `block`, byte by byte.
+#[tactic(auto, using(crate::proofs::Xors::xor_bytes_more, crate::proofs::Xors::xor_bytes_all))]
 fn xor_into(block: &mut [u8; DIGEST_LEN], value: &[u8; DIGEST_LEN])
     ensures { block.new ≡ xor_bytes block.old value.now }
 {

@@ -1,4 +1,4 @@
-use Rattle.std.proofs.Common.{◌≡◌, ℕ, List, ◌++◌, length, ap, ◌∙◌}
+use Rattle.std.proofs.Common.{ℕ, length}
 use Rattle.std.proofs.lemmas.List.{drop-replicate}
 use Rattle.key_derivation.proofs.hmac.zero_padded.Goals as goal
 

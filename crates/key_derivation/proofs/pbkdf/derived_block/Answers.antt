@@ -1,4 +1,4 @@
-use Rattle.std.proofs.Common.{◌≡◌, ℕ, ◌+◌, List, [], ap, sym, ◌∙◌, arith}
+use Rattle.std.proofs.Common.{◌≡◌, ℕ, ◌+◌, List, ap, sym, ◌∙◌, arith}
 use Rattle.sha1.specs.Sha1.{sha1}
 use Rattle.key_derivation.specs.Hmac.{hmac}
 use Rattle.key_derivation.specs.Pbkdf2.{first_text, turn_value, xor_of_turns, xor_bytes}

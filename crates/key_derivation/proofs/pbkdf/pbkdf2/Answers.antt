@@ -1,6 +1,6 @@
-use Rattle.std.proofs.Common.{◌≡◌, ℕ, ◌+◌, ◌*◌, ◌-◌, ◌<◌, ◌++◌, List, [], length, min, lit<, take, ap, sym, ◌∙◌, arith, length-append}
+use Rattle.std.proofs.Common.{◌≡◌, ℕ, ◌+◌, ◌*◌, ◌-◌, ◌<◌, List, length, min, lit<, take, ap, sym, ◌∙◌, arith, length-append}
 use Rattle.std.proofs.lemmas.Grind.{div_ceil_times}
-use Rattle.key_derivation.specs.Pbkdf2.{block_of, blocks, pbkdf2}
+use Rattle.key_derivation.specs.Pbkdf2.{block_of, blocks}
 use Rattle.key_derivation.proofs.Blocks.{length-block_of, blocks_more, filled_more, filled_all}
 use Rattle.key_derivation.proofs.pbkdf.pbkdf2.Goals as goal
 
