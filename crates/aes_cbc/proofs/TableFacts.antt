@@ -1,0 +1,43 @@
+-- The tables of the code are those of the definitions, computed at each of the 256 bytes.
+use Rattle.std.proofs.Common.{◌≡◌, ℕ, ◌<◌, List, map, get_or, refl, sym, ap, ◌∙◌, arith}
+use Rattle.std.specs.List.{range_with_len}
+use Rattle.std.proofs.lemmas.List.FromFn.{get_or-map-range_with_len}
+use Rattle.aes_cbc.specs.Field.{◌•◌, polynomial_product, remainder, inverse}
+use Rattle.aes_cbc.specs.Substitution.{sub_byte, inv_sub_byte, affine, inv_affine, number_of_bits}
+use Rattle.aes_cbc.specs.declared.tables.TheConstants.{S_BOX, INV_S_BOX, TIMES_2, TIMES_3, TIMES_9, TIMES_11, TIMES_13, TIMES_14}
+
+-- the table of a function gives its value at each byte
+from_table : (table : List ℕ) (f : ℕ → ℕ) → map f (range_with_len 0 256) ≡ table → (b : ℕ) → b < 256 → get_or table b 0 ≡ f b
+from_table table f is b small = ap (λ t. get_or t b 0) (sym is) ∙ get_or-map-range_with_len f 0 256 b b 0 small (omega arith)
+
+pub at_s_box : (b : ℕ) → b < 256 → get_or S_BOX b 0 ≡ sub_byte b
+unfolding sub_byte affine number_of_bits inverse ◌•◌ polynomial_product remainder
+at_s_box = from_table S_BOX sub_byte refl
+
+pub at_inv_s_box : (b : ℕ) → b < 256 → get_or INV_S_BOX b 0 ≡ inv_sub_byte b
+unfolding inv_sub_byte inv_affine number_of_bits inverse ◌•◌ polynomial_product remainder
+at_inv_s_box = from_table INV_S_BOX inv_sub_byte refl
+
+pub at_times_2 : (b : ℕ) → b < 256 → get_or TIMES_2 b 0 ≡ 2 • b
+unfolding ◌•◌ polynomial_product remainder
+at_times_2 = from_table TIMES_2 (λ b. 2 • b) refl
+
+pub at_times_3 : (b : ℕ) → b < 256 → get_or TIMES_3 b 0 ≡ 3 • b
+unfolding ◌•◌ polynomial_product remainder
+at_times_3 = from_table TIMES_3 (λ b. 3 • b) refl
+
+pub at_times_9 : (b : ℕ) → b < 256 → get_or TIMES_9 b 0 ≡ 9 • b
+unfolding ◌•◌ polynomial_product remainder
+at_times_9 = from_table TIMES_9 (λ b. 9 • b) refl
+
+pub at_times_11 : (b : ℕ) → b < 256 → get_or TIMES_11 b 0 ≡ 11 • b
+unfolding ◌•◌ polynomial_product remainder
+at_times_11 = from_table TIMES_11 (λ b. 11 • b) refl
+
+pub at_times_13 : (b : ℕ) → b < 256 → get_or TIMES_13 b 0 ≡ 13 • b
+unfolding ◌•◌ polynomial_product remainder
+at_times_13 = from_table TIMES_13 (λ b. 13 • b) refl
+
+pub at_times_14 : (b : ℕ) → b < 256 → get_or TIMES_14 b 0 ≡ 14 • b
+unfolding ◌•◌ polynomial_product remainder
+at_times_14 = from_table TIMES_14 (λ b. 14 • b) refl

@@ -1,0 +1,59 @@
+-- Cipher block chaining (SP 800-38A, section 6.2), and the padding of a text to whole blocks (RFC 5652,
+-- section 6.3).
+use Rattle.std.specs.Prelude.{◌≡◌, ℕ, zero, suc, ◌-◌, ◌/◌, ◌%◌, ◌<◌, ◌≤◌, List, [], ◌∷◌, ◌++◌, length, replicate}
+use Rattle.std.specs.List.{concat}
+use Rattle.std.specs.Simd.{first_chunks}
+use Rattle.aes_cbc.specs.Block.{sum_of_bytes}
+use Rattle.aes_cbc.specs.Cipher.{cipher, inv_cipher}
+
+-- the whole blocks of a text, in order
+abbrev pub blocks_of : List ℕ → List (List ℕ)
+blocks_of text = first_chunks 16 (length text / 16) text
+
+-- these bytes are whole blocks, at least one
+abbrev pub AreWholeBlocks : List ℕ → Type 0
+AreWholeBlocks bytes = (0 < length bytes) × (length bytes % 16 ≡ 0)
+
+-- blocks enciphered in a chain: each is summed with the enciphered block before it, and the first one with
+-- the initialization vector (SP 800-38A, 6.2)
+unfoldable pub enciphered : List (List ℕ) → List ℕ → List (List ℕ) → List (List ℕ)
+enciphered words before [] = []
+enciphered words before (block ∷ blocks) =
+    let chained = cipher words (sum_of_bytes block before) in chained ∷ enciphered words chained blocks
+
+-- blocks deciphered in a chain (SP 800-38A, 6.2)
+unfoldable pub deciphered : List (List ℕ) → List ℕ → List (List ℕ) → List (List ℕ)
+deciphered words before [] = []
+deciphered words before (block ∷ blocks) =
+    sum_of_bytes (inv_cipher words block) before ∷ deciphered words block blocks
+
+-- the number of bytes that pad a text of n bytes to whole blocks of 16, from 1 to 16 (RFC 5652, 6.3)
+abbrev pub padding_size : ℕ → ℕ
+padding_size n = 16 - n % 16
+
+-- a text and its padding: so many bytes, each of that value (RFC 5652, 6.3)
+unfoldable pub padded : List ℕ → List ℕ
+padded text = text ++ replicate (padding_size (length text)) (padding_size (length text))
+
+-- these bytes are the text and a padding: p bytes of value p, with p from 1 to 16 (RFC 5652, 6.3)
+pub record IsPaddedText (bytes text : List ℕ) : Type 0 where
+  pub size : ℕ
+  pub is_some : 1 ≤ size
+  pub is_at_most_a_block : size ≤ 16
+  pub is_whole : bytes ≡ text ++ replicate size size
+
+-- the cipher text of a text: its padded blocks in a chain
+unfoldable pub cbc_encrypted : List (List ℕ) → List ℕ → List ℕ → List ℕ
+cbc_encrypted words iv text = concat (enciphered words iv (blocks_of (padded text)))
+
+-- the padded text of a cipher text
+unfoldable pub cbc_deciphered : List (List ℕ) → List ℕ → List ℕ → List ℕ
+cbc_deciphered words iv bytes = concat (deciphered words iv (blocks_of bytes))
+
+-- this text is what a cipher text has under its padding
+abbrev pub IsCbcText : List (List ℕ) → List ℕ → List ℕ → List ℕ → Type 0
+IsCbcText words iv bytes text = IsPaddedText (cbc_deciphered words iv bytes) text
+
+-- the padded text of a cipher text ends in no padding
+abbrev pub HasNoPadding : List (List ℕ) → List ℕ → List ℕ → Type 0
+HasNoPadding words iv bytes = (text : List ℕ) → IsCbcText words iv bytes text → ⊥

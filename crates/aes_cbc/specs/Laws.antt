@@ -1,0 +1,35 @@
+-- What holds of all keys and blocks, by the definitions alone.
+use Rattle.std.specs.Prelude.{◌≡◌, ℕ, ◌<◌, List, All, length}
+use Rattle.aes_cbc.specs.Expansion.{key_expansion}
+use Rattle.aes_cbc.specs.Cipher.{cipher, inv_cipher}
+use Rattle.aes_cbc.specs.Chaining.{AreWholeBlocks, IsCbcText, cbc_encrypted}
+
+-- these numbers are bytes
+abbrev pub AreBytes : List ℕ → Type 0
+AreBytes xs = All (λ b. b < 256) xs
+
+-- these are 16 bytes
+pub record IsBlock (xs : List ℕ) : Type 0 where
+  pub are_bytes : AreBytes xs
+  pub is_whole : length xs ≡ 16
+
+-- a block that is enciphered and then deciphered is the block again
+abbrev pub DecipheringUndoesEnciphering : Type 0
+DecipheringUndoesEnciphering =
+    (key block : List ℕ) → IsBlock key → IsBlock block → inv_cipher (key_expansion key) (cipher (key_expansion key) block) ≡ block
+
+-- a block that is deciphered and then enciphered is the block again
+abbrev pub EncipheringUndoesDeciphering : Type 0
+EncipheringUndoesDeciphering =
+    (key block : List ℕ) → IsBlock key → IsBlock block → cipher (key_expansion key) (inv_cipher (key_expansion key) block) ≡ block
+
+-- a text that is encrypted is whole blocks, which are decrypted to that text and to no other
+pub record DecryptsTo (words : List (List ℕ)) (iv text : List ℕ) : Type 0 where
+  pub are_whole : AreWholeBlocks (cbc_encrypted words iv text)
+  pub is_text : IsCbcText words iv (cbc_encrypted words iv text) text
+  pub is_only : (other : List ℕ) → IsCbcText words iv (cbc_encrypted words iv text) other → other ≡ text
+
+-- a text that is encrypted and then decrypted, under one key and initialization vector, is the text again
+abbrev pub DecryptionUndoesEncryption : Type 0
+DecryptionUndoesEncryption =
+    (key iv text : List ℕ) → IsBlock key → IsBlock iv → AreBytes text → DecryptsTo (key_expansion key) iv text
