@@ -1,6 +1,5 @@
 -- The expansion of a key is 44 words of four bytes, and each round key is a block.
-use Rattle.std.proofs.Common.{◌≡◌, ℕ, zero, suc, ◌+◌, ◌-◌, ◌*◌, ◌/◌, ◌%◌, ◌<◌, ◌≤◌, ◌==◌, nat_lt, Bool, cond, List, [], ◌∷◌, ◌++◌, map, length, take, drop, inl, inr, refl, sym, ap, ◌∙◌, arith, All}
-use Rattle.std.specs.List.{concat}
+use Rattle.std.proofs.Common.{◌≡◌, ℕ, zero, suc, ◌+◌, ◌-◌, ◌*◌, ◌/◌, ◌%◌, ◌<◌, ◌≤◌, ◌==◌, nat_lt, Bool, cond, List, [], ◌∷◌, ◌++◌, map, length, get_or, take, drop, inl, inr, refl, sym, ap, ◌∙◌, arith, All}
 use Rattle.std.proofs.lemmas.List.{length-map, length-take, length-drop, length-append, length_push}
 use Rattle.std.proofs.lemmas.List.Elements.{All-cons, All-nil, All-head, All-tail, All-take, All-drop, All-append, All-push, All-get_or, All-replicate}
 use Rattle.std.proofs.lemmas.Bool.{cases_lt, cond_both, ltb-true, ltb-false}
@@ -12,7 +11,7 @@ use Rattle.aes_cbc.specs.Cipher.{round_key}
 use Rattle.aes_cbc.specs.Laws.{AreBytes, IsBlock}
 use Rattle.aes_cbc.proofs.FieldLemmas.{byte_at_bytes}
 use Rattle.aes_cbc.proofs.ByteFacts.{sub_byte-lt}
-use Rattle.aes_cbc.proofs.BlockLemmas.{AreBytes-sum_of_bytes, AreBytes-map, length-sum_of_bytes}
+use Rattle.aes_cbc.proofs.BlockLemmas.{IsBlock-block_of, AreBytes-sum_of_bytes, AreBytes-map, length-sum_of_bytes}
 
 -- four bytes
 pub record IsWord (word : List ℕ) : Type 0 where
@@ -97,25 +96,10 @@ AreRoundKeys-key_expansion key block = record { are_words = are_words-first_word
 
 -- ---- round keys
 
-length-concat : (words : List (List ℕ)) → All IsWord words → length (concat words) ≡ 4 * length words
-length-concat [] h = refl
-length-concat (word ∷ words) h =
-    omega (arith, length-append word (concat words), (All-head IsWord word words h).is_whole, length-concat words (All-tail IsWord word words h))
-
-AreBytes-concat : (words : List (List ℕ)) → All IsWord words → AreBytes (concat words)
-AreBytes-concat [] h =
-    let P : ℕ → Type 0 = λ b. b < 256 in All-nil P
-AreBytes-concat (word ∷ words) h =
-    let P : ℕ → Type 0 = λ b. b < 256 in
-    All-append P word (concat words) (All-head IsWord word words h).are_bytes (AreBytes-concat words (All-tail IsWord word words h))
-
 -- each round key is a block
 pub IsBlock-round_key : (words : List (List ℕ)) (n : ℕ) → AreRoundKeys words → n ≤ 10 → IsBlock (round_key words n)
 unfolding round_key
 IsBlock-round_key words n keys small =
-    let own : List (List ℕ) = take 4 (drop (4 * n) words) in
-    let are_words : All IsWord own = All-take IsWord 4 (drop (4 * n) words) (All-drop IsWord (4 * n) words keys.are_words) in
-    record {
-      are_bytes = AreBytes-concat own are_words;
-      is_whole = omega (arith, length-concat own are_words, length-take 4 (drop (4 * n) words), length-drop (4 * n) words, keys.is_whole);
-    }
+    IsBlock-block_of (λ r c. get_or (word_at words (4 * n + c)) r 0) (λ r c hr hc.
+    let word : IsWord (word_at words (4 * n + c)) = keys.are_words (4 * n + c) [] (omega (arith, keys.is_whole)) in
+    word.are_bytes r 0 (omega (arith, word.is_whole)))

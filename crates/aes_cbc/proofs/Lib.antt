@@ -5,3 +5,6 @@ pub mod BlockLemmas
 pub mod Mixing
 pub mod ExpansionLemmas
 pub mod CipherLemmas
+pub mod StepLemmas
+pub mod WordLemmas
+pub mod RoundLemmas

@@ -1,12 +1,12 @@
 -- The cipher and its inverse on one block, with the words of the expanded key (FIPS 197, sections 5.1
 -- and 5.3). AES-128 has ten rounds.
-use Rattle.std.specs.Prelude.{ℕ, zero, suc, ◌+◌, ◌-◌, ◌*◌, List, take, drop}
-use Rattle.std.specs.List.{concat}
-use Rattle.aes_cbc.specs.Block.{sub_bytes, inv_sub_bytes, shift_rows, inv_shift_rows, mix_columns, inv_mix_columns, add_round_key}
+use Rattle.std.specs.Prelude.{ℕ, zero, suc, ◌+◌, ◌-◌, ◌*◌, List, slice_index}
+use Rattle.aes_cbc.specs.Expansion.{word_at}
+use Rattle.aes_cbc.specs.Block.{block_of, sub_bytes, inv_sub_bytes, shift_rows, inv_shift_rows, mix_columns, inv_mix_columns, add_round_key}
 
--- round key n: the words 4n to 4n + 3 (5.1.4)
+-- round key n: the words 4n to 4n + 3, as the columns of a block (5.1.4)
 unfoldable pub round_key : List (List ℕ) → ℕ → List ℕ
-round_key words n = concat (take 4 (drop (4 * n) words))
+round_key words n = block_of (λ row column. slice_index (word_at words (4 * n + column)) row)
 
 -- the state after the first round key and n of the nine rounds that mix columns (5.1)
 unfoldable pub after_rounds : List (List ℕ) → List ℕ → ℕ → List ℕ

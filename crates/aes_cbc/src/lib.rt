@@ -3,7 +3,10 @@
 
 mod laws;
 mod memory;
+mod schedule;
+mod steps;
 mod tables;
 
 pub use laws::{deciphering_undoes_enciphering, enciphering_undoes_deciphering};
 pub use memory::NoMemory;
+pub use schedule::Schedule;

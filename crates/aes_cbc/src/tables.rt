@@ -1,7 +1,7 @@
 // The S-box and the products of the field, as tables that one byte is looked up in (FIPS 197, sections 4.2
 // and 5.1.1).
-ghost use Rattle.std.specs.Prelude.{◌≡◌};
-ghost use Rattle.aes_cbc.specs.Field.{◌•◌};
+ghost use Rattle.std.specs.Prelude.{◌≡◌, ◌-◌, ◌≤◌};
+ghost use Rattle.aes_cbc.specs.Field.{◌•◌, power_of_x};
 ghost use Rattle.aes_cbc.specs.Substitution.{sub_byte, inv_sub_byte};
 
 // Byte b of the S-box at place b.
@@ -164,6 +164,9 @@ static TIMES_14: [u8; 256] = [
     0xd7, 0xd9, 0xcb, 0xc5, 0xef, 0xe1, 0xf3, 0xfd, 0xa7, 0xa9, 0xbb, 0xb5, 0x9f, 0x91, 0x83, 0x8d,
 ];
 
+// The first byte of Rcon[n], which is x^(n - 1), at place n - 1.
+static ROUND_CONSTANTS: [u8; 10] = [0x01, 0x02, 0x04, 0x08, 0x10, 0x20, 0x40, 0x80, 0x1b, 0x36];
+
 // The byte, through the S-box.
 #[inline]
 pub(crate) fn sub_byte(byte: u8) -> u8
@@ -226,4 +229,14 @@ pub(crate) fn times_14(byte: u8) -> u8
     ensures { result ≡ 14 • byte }
 {
     TIMES_14[byte as usize]
+}
+
+// The first byte of Rcon[n].
+#[inline]
+pub(crate) fn round_constant(n: usize) -> u8
+    requires is_from_1 { 1 ≤ n }
+    requires is_upto_10 { n ≤ 10 }
+    ensures { result ≡ power_of_x (n - 1) }
+{
+    ROUND_CONSTANTS[n - 1]
 }

@@ -1,0 +1,6 @@
+use Rattle.std.proofs.Common.{◌≡◌}
+use Rattle.aes_cbc.specs.Cipher.{after_inv_rounds}
+use Rattle.aes_cbc.proofs.schedule.Schedule.decrypt_block.Given as goal
+
+abbrev pub invariant-rounds : goal.invariant-rounds
+invariant-rounds l = l.state ≡ after_inv_rounds l.self l.block l.round
