@@ -8,3 +8,7 @@ pub mod CipherLemmas
 pub mod StepLemmas
 pub mod WordLemmas
 pub mod RoundLemmas
+pub mod Chunks
+pub mod PaddingLemmas
+pub mod ChainingLemmas
+pub mod ChainSteps

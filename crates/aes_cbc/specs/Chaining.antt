@@ -1,6 +1,6 @@
 -- Cipher block chaining (SP 800-38A, section 6.2), and the padding of a text to whole blocks (RFC 5652,
 -- section 6.3).
-use Rattle.std.specs.Prelude.{◌≡◌, ℕ, zero, suc, ◌-◌, ◌/◌, ◌%◌, ◌<◌, ◌≤◌, List, [], ◌∷◌, ◌++◌, length, replicate}
+use Rattle.std.specs.Prelude.{◌≡◌, ◌≢◌, ◌⊎◌, ℕ, ◌-◌, ◌/◌, ◌%◌, ◌<◌, ◌≤◌, List, [], ◌∷◌, ◌++◌, length, drop, replicate, slice_index_or}
 use Rattle.std.specs.List.{concat}
 use Rattle.std.specs.Simd.{first_chunks}
 use Rattle.aes_cbc.specs.Block.{sum_of_bytes}
@@ -57,3 +57,21 @@ IsCbcText words iv bytes text = IsPaddedText (cbc_deciphered words iv bytes) tex
 -- the padded text of a cipher text ends in no padding
 abbrev pub HasNoPadding : List (List ℕ) → List ℕ → List ℕ → Type 0
 HasNoPadding words iv bytes = (text : List ℕ) → IsCbcText words iv bytes text → ⊥
+
+-- a cipher text has a text under its padding
+abbrev pub HasText : List (List ℕ) → List ℕ → List ℕ → Type 0
+HasText words iv bytes = (text : List ℕ) × IsCbcText words iv bytes text
+
+-- these bytes are no whole blocks
+abbrev pub HasBadLength : List ℕ → Type 0
+HasBadLength bytes = (length bytes ≡ 0) ⊎ (length bytes % 16 ≢ 0)
+
+-- a block that ends in a padding of this size
+pub record EndsInPadding (block : List ℕ) (size : ℕ) : Type 0 where
+  pub is_some : 1 ≤ size
+  pub is_at_most_a_block : size ≤ 16
+  pub is_tail : drop (16 - size) block ≡ replicate size size
+
+-- the last one of these blocks, or the given one where there is none
+abbrev pub last_or : List ℕ → List (List ℕ) → List ℕ
+last_or before blocks = slice_index_or blocks (length blocks - 1) before
