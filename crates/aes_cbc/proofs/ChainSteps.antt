@@ -5,7 +5,7 @@ use Rattle.std.specs.Simd.{first_chunks}
 use Rattle.std.proofs.lemmas.List.{append-nil, append_assoc, drop_more, drop_all, get_or_default}
 use Rattle.aes_cbc.specs.Block.{sum_of_bytes}
 use Rattle.aes_cbc.specs.Cipher.{cipher, inv_cipher}
-use Rattle.aes_cbc.specs.Chaining.{AreWholeBlocks, blocks_of, enciphered, deciphered, padded, IsPaddedText, IsCbcText, HasText, HasNoPadding, EndsInPadding, cbc_encrypted, cbc_deciphered, last_or}
+use Rattle.aes_cbc.specs.Chaining.{AreWholeBlocks, blocks_of, encrypted_blocks, decrypted_blocks, padded, IsPaddedText, IsCbcText, HasText, HasNoPadding, EndsInPadding, cbc_encrypted, cbc_decrypted, last_or}
 use Rattle.aes_cbc.proofs.PaddingLemmas.{blocks_of-padded, padded_from_end, padded_at_end, text_of_block, block_of_text}
 
 concat-push : (xss : List (List ℕ)) (xs : List ℕ) → concat (xss ++ xs ∷ []) ≡ concat xss ++ xs
@@ -13,60 +13,60 @@ concat-push [] xs = append-nil xs
 concat-push (ys ∷ xss) xs = ap (λ t. ys ++ t) (concat-push xss xs) ∙ sym (append_assoc ys (concat xss) xs)
 
 module _ (words : List (List ℕ)) where
-  -- ---- enciphering
+  -- ---- encryption
 
   -- what is ahead makes the whole, whatever follows
-  abbrev pub EncipheredAhead : List ℕ → List (List ℕ) → List ℕ → List ℕ → ℕ → Type 0
-  EncipheredAhead iv blocks out chained i =
-      (rest : List (List ℕ)) → out ++ concat (enciphered words chained (drop i blocks ++ rest)) ≡ concat (enciphered words iv (blocks ++ rest))
+  abbrev pub EncryptedAhead : List ℕ → List (List ℕ) → List ℕ → List ℕ → ℕ → Type 0
+  EncryptedAhead iv blocks out chained i =
+      (rest : List (List ℕ)) → out ++ concat (encrypted_blocks words chained (drop i blocks ++ rest)) ≡ concat (encrypted_blocks words iv (blocks ++ rest))
 
-  pub enciphered_more : (iv : List ℕ) (blocks : List (List ℕ)) (out chained : List ℕ) (i : ℕ) (next grown : List ℕ) → i < length blocks
-      → EncipheredAhead iv blocks out chained i → next ≡ cipher words (sum_of_bytes (get_or blocks i []) chained) → grown ≡ out ++ next
-      → EncipheredAhead iv blocks grown next (i + 1)
-  unfolding enciphered
-  enciphered_more iv blocks out chained i next grown small ahead is_next is_grown rest =
+  pub encrypted_more : (iv : List ℕ) (blocks : List (List ℕ)) (out chained : List ℕ) (i : ℕ) (next grown : List ℕ) → i < length blocks
+      → EncryptedAhead iv blocks out chained i → next ≡ cipher words (sum_of_bytes (get_or blocks i []) chained) → grown ≡ out ++ next
+      → EncryptedAhead iv blocks grown next (i + 1)
+  unfolding encrypted_blocks
+  encrypted_more iv blocks out chained i next grown small ahead is_next is_grown rest =
       let link : List ℕ = cipher words (sum_of_bytes (get_or blocks i []) chained) in
       let left : List (List ℕ) = drop (i + 1) blocks ++ rest in
-      ap₂ (λ o x. o ++ concat (enciphered words x left)) (is_grown ∙ ap (λ x. out ++ x) is_next) is_next
-      ∙ append_assoc out link (concat (enciphered words link left))
-      ∙ ap (λ bs. out ++ concat (enciphered words chained (bs ++ rest))) (sym (drop_more blocks i [] small))
+      ap₂ (λ o x. o ++ concat (encrypted_blocks words x left)) (is_grown ∙ ap (λ x. out ++ x) is_next) is_next
+      ∙ append_assoc out link (concat (encrypted_blocks words link left))
+      ∙ ap (λ bs. out ++ concat (encrypted_blocks words chained (bs ++ rest))) (sym (drop_more blocks i [] small))
       ∙ ahead rest
 
   pub encrypted_from : (iv plain : List ℕ) (blocks : List (List ℕ)) (rest out chained : List ℕ) (i : ℕ) (block sum last grown : List ℕ)
-      → blocks ≡ blocks_of plain → rest ≡ drop (length plain / 16 * 16) plain → length blocks ≤ i → EncipheredAhead iv blocks out chained i
+      → blocks ≡ blocks_of plain → rest ≡ drop (length plain / 16 * 16) plain → length blocks ≤ i → EncryptedAhead iv blocks out chained i
       → block ≡ padded rest → sum ≡ sum_of_bytes block chained → last ≡ cipher words sum → grown ≡ out ++ last → grown ≡ cbc_encrypted words iv plain
-  unfolding cbc_encrypted enciphered
+  unfolding cbc_encrypted encrypted_blocks
   encrypted_from iv plain blocks rest out chained i block sum last grown are_blocks is_rest all ahead is_block is_sum is_last is_grown =
       let end : List ℕ = cipher words (sum_of_bytes (padded rest) chained) in
       let is_end : last ≡ end = is_last ∙ ap (cipher words) (is_sum ∙ ap (λ b. sum_of_bytes b chained) is_block) in
       is_grown ∙ ap (λ x. out ++ x) (is_end ∙ sym (append-nil end))
-      ∙ ap (λ bs. out ++ concat (enciphered words chained (bs ++ padded rest ∷ []))) (sym (drop_all i blocks all))
+      ∙ ap (λ bs. out ++ concat (encrypted_blocks words chained (bs ++ padded rest ∷ []))) (sym (drop_all i blocks all))
       ∙ ahead (padded rest ∷ [])
-      ∙ ap₂ (λ bs r. concat (enciphered words iv (bs ++ padded r ∷ []))) are_blocks is_rest
-      ∙ ap (λ bs. concat (enciphered words iv bs)) (sym (blocks_of-padded plain))
+      ∙ ap₂ (λ bs r. concat (encrypted_blocks words iv (bs ++ padded r ∷ []))) are_blocks is_rest
+      ∙ ap (λ bs. concat (encrypted_blocks words iv bs)) (sym (blocks_of-padded plain))
 
-  -- ---- deciphering
+  -- ---- decryption
 
-  pub deciphered_more : (iv : List ℕ) (blocks : List (List ℕ)) (out before : List ℕ) (i : ℕ) (plain sum grown : List ℕ) → i < length blocks
-      → out ++ concat (deciphered words before (drop i blocks)) ≡ concat (deciphered words iv blocks)
+  pub decrypted_more : (iv : List ℕ) (blocks : List (List ℕ)) (out before : List ℕ) (i : ℕ) (plain sum grown : List ℕ) → i < length blocks
+      → out ++ concat (decrypted_blocks words before (drop i blocks)) ≡ concat (decrypted_blocks words iv blocks)
       → plain ≡ inv_cipher words (get_or blocks i []) → sum ≡ sum_of_bytes plain before → grown ≡ out ++ sum
-      → grown ++ concat (deciphered words (get_or blocks i []) (drop (i + 1) blocks)) ≡ concat (deciphered words iv blocks)
-  unfolding deciphered
-  deciphered_more iv blocks out before i plain sum grown small ahead is_plain is_sum is_grown =
+      → grown ++ concat (decrypted_blocks words (get_or blocks i []) (drop (i + 1) blocks)) ≡ concat (decrypted_blocks words iv blocks)
+  unfolding decrypted_blocks
+  decrypted_more iv blocks out before i plain sum grown small ahead is_plain is_sum is_grown =
       let block : List ℕ = get_or blocks i [] in
       let link : List ℕ = sum_of_bytes (inv_cipher words block) before in
-      let left : List ℕ = concat (deciphered words block (drop (i + 1) blocks)) in
+      let left : List ℕ = concat (decrypted_blocks words block (drop (i + 1) blocks)) in
       ap (λ o. o ++ left) (is_grown ∙ ap (λ x. out ++ x) (is_sum ∙ ap (λ p. sum_of_bytes p before) is_plain))
       ∙ append_assoc out link left
-      ∙ ap (λ bs. out ++ concat (deciphered words before bs)) (sym (drop_more blocks i [] small))
+      ∙ ap (λ bs. out ++ concat (decrypted_blocks words before bs)) (sym (drop_more blocks i [] small))
       ∙ ahead
 
-  pub deciphered_all : (iv : List ℕ) (blocks : List (List ℕ)) (out before : List ℕ) (i : ℕ) (end grown : List ℕ) → length blocks ≤ i
-      → out ++ concat (deciphered words before (drop i blocks)) ≡ concat (deciphered words iv blocks) → grown ≡ out ++ end
-      → grown ≡ concat (deciphered words iv blocks) ++ end
-  unfolding deciphered
-  deciphered_all iv blocks out before i end grown all ahead is_grown =
-      is_grown ∙ ap (λ o. o ++ end) (sym (append-nil out) ∙ ap (λ bs. out ++ concat (deciphered words before bs)) (sym (drop_all i blocks all)) ∙ ahead)
+  pub decrypted_all : (iv : List ℕ) (blocks : List (List ℕ)) (out before : List ℕ) (i : ℕ) (end grown : List ℕ) → length blocks ≤ i
+      → out ++ concat (decrypted_blocks words before (drop i blocks)) ≡ concat (decrypted_blocks words iv blocks) → grown ≡ out ++ end
+      → grown ≡ concat (decrypted_blocks words iv blocks) ++ end
+  unfolding decrypted_blocks
+  decrypted_all iv blocks out before i end grown all ahead is_grown =
+      is_grown ∙ ap (λ o. o ++ end) (sym (append-nil out) ∙ ap (λ bs. out ++ concat (decrypted_blocks words before bs)) (sym (drop_all i blocks all)) ∙ ahead)
 
   last_or-cons : (before block : List ℕ) (blocks : List (List ℕ)) → last_or before (block ∷ blocks) ≡ last_or block blocks
   last_or-cons before block [] = refl
@@ -78,14 +78,14 @@ module _ (words : List (List ℕ)) where
       ∙ ap (λ k. get_or (next ∷ blocks) k block) (sym near)
 
   -- the last block is summed with the one before it
-  deciphered-push : (before : List ℕ) (blocks : List (List ℕ)) (last : List ℕ)
-      → deciphered words before (blocks ++ last ∷ []) ≡ deciphered words before blocks ++ sum_of_bytes (inv_cipher words last) (last_or before blocks) ∷ []
-  unfolding deciphered
-  deciphered-push before [] last = refl
-  deciphered-push before (block ∷ blocks) last =
+  decrypted_blocks-push : (before : List ℕ) (blocks : List (List ℕ)) (last : List ℕ)
+      → decrypted_blocks words before (blocks ++ last ∷ []) ≡ decrypted_blocks words before blocks ++ sum_of_bytes (inv_cipher words last) (last_or before blocks) ∷ []
+  unfolding decrypted_blocks
+  decrypted_blocks-push before [] last = refl
+  decrypted_blocks-push before (block ∷ blocks) last =
       ap (λ t. sum_of_bytes (inv_cipher words block) before ∷ t)
-      (deciphered-push block blocks last
-      ∙ ap (λ b. deciphered words block blocks ++ sum_of_bytes (inv_cipher words last) b ∷ []) (sym (last_or-cons before block blocks)))
+      (decrypted_blocks-push block blocks last
+      ∙ ap (λ b. decrypted_blocks words block blocks ++ sum_of_bytes (inv_cipher words last) b ∷ []) (sym (last_or-cons before block blocks)))
 
   -- the end of the padded text, from what the code computes
   pub end_from : (iv : List ℕ) (front : List (List ℕ)) (last plain before end : List ℕ) → plain ≡ inv_cipher words last → before ≡ last_or iv front
@@ -95,30 +95,30 @@ module _ (words : List (List ℕ)) where
   module _ (iv bytes : List ℕ) (blocks front : List (List ℕ)) (last end : List ℕ) (are_blocks : blocks ≡ blocks_of bytes) (is_split : blocks ≡ front ++ last ∷ [])
       (is_end : end ≡ sum_of_bytes (inv_cipher words last) (last_or iv front)) where
     -- the padded text: what the front blocks give, and the last one
-    padded_text : cbc_deciphered words iv bytes ≡ concat (deciphered words iv front) ++ end
-    unfolding cbc_deciphered
+    padded_text : cbc_decrypted words iv bytes ≡ concat (decrypted_blocks words iv front) ++ end
+    unfolding cbc_decrypted
     padded_text =
-        ap (λ bs. concat (deciphered words iv bs)) (sym are_blocks ∙ is_split) ∙ ap concat (deciphered-push iv front last)
-        ∙ concat-push (deciphered words iv front) (sum_of_bytes (inv_cipher words last) (last_or iv front))
-        ∙ ap (λ e. concat (deciphered words iv front) ++ e) (sym is_end)
+        ap (λ bs. concat (decrypted_blocks words iv bs)) (sym are_blocks ∙ is_split) ∙ ap concat (decrypted_blocks-push iv front last)
+        ∙ concat-push (decrypted_blocks words iv front) (sum_of_bytes (inv_cipher words last) (last_or iv front))
+        ∙ ap (λ e. concat (decrypted_blocks words iv front) ++ e) (sym is_end)
 
     -- a text, from the padding of the last block
-    pub is_text : (size : ℕ) (text : List ℕ) → EndsInPadding end size → text ≡ concat (deciphered words iv front) ++ take (16 - size) end → IsCbcText words iv bytes text
+    pub is_text : (size : ℕ) (text : List ℕ) → EndsInPadding end size → text ≡ concat (decrypted_blocks words iv front) ++ take (16 - size) end → IsCbcText words iv bytes text
     is_text size text ends is =
         let P : List ℕ → Type 0 = λ t. IsCbcText words iv bytes t in
-        let Q : List ℕ → Type 0 = λ whole. IsPaddedText whole (concat (deciphered words iv front) ++ take (16 - size) end) in
+        let Q : List ℕ → Type 0 = λ whole. IsPaddedText whole (concat (decrypted_blocks words iv front) ++ take (16 - size) end) in
         subst P (sym is)
         (subst Q (sym padded_text)
-        (padded_from_end (concat (deciphered words iv front)) end (take (16 - size) end) (text_of_block end size ends)))
+        (padded_from_end (concat (decrypted_blocks words iv front)) end (take (16 - size) end) (text_of_block end size ends)))
 
     pub has_text : (size : ℕ) → EndsInPadding end size → HasText words iv bytes
     has_text size ends =
-        (concat (deciphered words iv front) ++ take (16 - size) end, is_text size (concat (deciphered words iv front) ++ take (16 - size) end) ends refl)
+        (concat (decrypted_blocks words iv front) ++ take (16 - size) end, is_text size (concat (decrypted_blocks words iv front) ++ take (16 - size) end) ends refl)
 
     -- no text, where the last block ends in no padding
     pub has_no_padding : length end ≡ 16 → ((size : ℕ) → EndsInPadding end size → ⊥) → HasNoPadding words iv bytes
     has_no_padding whole none text is =
         let Q : List ℕ → Type 0 = λ bs. IsPaddedText bs text in
-        let at_end : IsPaddedText end (drop (length (concat (deciphered words iv front))) text) =
-        padded_at_end (concat (deciphered words iv front)) end text whole (subst Q padded_text is) in
-        none at_end.size (block_of_text end (drop (length (concat (deciphered words iv front))) text) whole at_end)
+        let at_end : IsPaddedText end (drop (length (concat (decrypted_blocks words iv front))) text) =
+        padded_at_end (concat (decrypted_blocks words iv front)) end text whole (subst Q padded_text is) in
+        none at_end.size (block_of_text end (drop (length (concat (decrypted_blocks words iv front))) text) whole at_end)

@@ -3,7 +3,7 @@ use Rattle.std.proofs.Common.{◌≡◌, ℕ, zero, suc, ◌+◌, ◌-◌, ◌<�
 use Rattle.aes_cbc.specs.Block.{sum_of_bytes, sub_bytes, inv_sub_bytes, shift_rows, inv_shift_rows, mix_columns, inv_mix_columns, add_round_key}
 use Rattle.aes_cbc.specs.Expansion.{key_expansion}
 use Rattle.aes_cbc.specs.Cipher.{round_key, after_rounds, cipher, after_inv_rounds, inv_cipher}
-use Rattle.aes_cbc.specs.Laws.{IsBlock, DecipheringUndoesEnciphering, EncipheringUndoesDeciphering}
+use Rattle.aes_cbc.specs.Laws.{IsBlock, InverseCipherUndoesCipher, CipherUndoesInverseCipher}
 use Rattle.aes_cbc.proofs.BlockLemmas.{IsBlock-sum, sum_twice_of_blocks, IsBlock-sub_bytes, IsBlock-inv_sub_bytes, inv_sub_bytes-sub_bytes, sub_bytes-inv_sub_bytes, IsBlock-shift_rows, IsBlock-inv_shift_rows, inv_shift_rows-shift_rows, shift_rows-inv_shift_rows}
 use Rattle.aes_cbc.proofs.Mixing.{IsBlock-mix_columns, IsBlock-inv_mix_columns, inv_mix_columns-mix_columns, mix_columns-inv_mix_columns}
 use Rattle.aes_cbc.proofs.ExpansionLemmas.{AreRoundKeys, AreRoundKeys-key_expansion, IsBlock-round_key}
@@ -135,8 +135,8 @@ module _ (words : List (List ℕ)) (keys : AreRoundKeys words) where
         ∙ ap (λ s. sum_of_bytes s key) (substituted-restored (before 0) (IsBlock-before 0 (omega arith)))
         ∙ key_twice block 10 is_block (omega arith)
 
-pub deciphering_undoes_enciphering : DecipheringUndoesEnciphering
-deciphering_undoes_enciphering key block is_key is_block = inv_cipher-cipher (key_expansion key) (AreRoundKeys-key_expansion key is_key) block is_block
+pub inverse_cipher_undoes_cipher : InverseCipherUndoesCipher
+inverse_cipher_undoes_cipher key block is_key is_block = inv_cipher-cipher (key_expansion key) (AreRoundKeys-key_expansion key is_key) block is_block
 
-pub enciphering_undoes_deciphering : EncipheringUndoesDeciphering
-enciphering_undoes_deciphering key block is_key is_block = cipher-inv_cipher (key_expansion key) (AreRoundKeys-key_expansion key is_key) block is_block
+pub cipher_undoes_inverse_cipher : CipherUndoesInverseCipher
+cipher_undoes_inverse_cipher key block is_key is_block = cipher-inv_cipher (key_expansion key) (AreRoundKeys-key_expansion key is_key) block is_block

@@ -40,7 +40,7 @@ times_bit b x y h = elim (bit_cases b h) [
 ]
 
 times_power : (n x y : ℕ) → (x ⊕ y) * 2 ^ n ≡ x * 2 ^ n ⊕ y * 2 ^ n
-times_power n x y = sym (rw (add-zero, add-zero, add-zero) at (xor_block n x y 0 0 (pow_pos n) (pow_pos n)))
+times_power n x y = sym (simp add-zero at (xor_block n x y 0 0 (pow_pos n) (pow_pos n)))
 
 bit_sum_times : (a b m : ℕ) → a < 2 → b < 2 → ((a + b) % 2) * m ≡ a * m ⊕ b * m
 bit_sum_times a b m h k = elim (bit_cases a h) [

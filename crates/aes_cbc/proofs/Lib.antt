@@ -12,3 +12,4 @@ pub mod Chunks
 pub mod PaddingLemmas
 pub mod ChainingLemmas
 pub mod ChainSteps
+pub mod StandardFacts

@@ -14,18 +14,19 @@ blocks_of text = first_chunks 16 (length text / 16) text
 abbrev pub AreWholeBlocks : List ℕ → Type 0
 AreWholeBlocks bytes = (0 < length bytes) × (length bytes % 16 ≡ 0)
 
--- blocks enciphered in a chain: each is summed with the enciphered block before it, and the first one with
+-- blocks encrypted in a chain: each one is summed with the encrypted block before it, and the first one with
 -- the initialization vector (SP 800-38A, 6.2)
-unfoldable pub enciphered : List (List ℕ) → List ℕ → List (List ℕ) → List (List ℕ)
-enciphered words before [] = []
-enciphered words before (block ∷ blocks) =
-    let chained = cipher words (sum_of_bytes block before) in chained ∷ enciphered words chained blocks
+unfoldable pub encrypted_blocks : List (List ℕ) → List ℕ → List (List ℕ) → List (List ℕ)
+encrypted_blocks words before [] = []
+encrypted_blocks words before (block ∷ blocks) =
+    let chained = cipher words (sum_of_bytes block before) in chained ∷ encrypted_blocks words chained blocks
 
--- blocks deciphered in a chain (SP 800-38A, 6.2)
-unfoldable pub deciphered : List (List ℕ) → List ℕ → List (List ℕ) → List (List ℕ)
-deciphered words before [] = []
-deciphered words before (block ∷ blocks) =
-    sum_of_bytes (inv_cipher words block) before ∷ deciphered words block blocks
+-- blocks decrypted in a chain: each one is summed with the block before it as it was, and the first one with
+-- the initialization vector (SP 800-38A, 6.2)
+unfoldable pub decrypted_blocks : List (List ℕ) → List ℕ → List (List ℕ) → List (List ℕ)
+decrypted_blocks words before [] = []
+decrypted_blocks words before (block ∷ blocks) =
+    sum_of_bytes (inv_cipher words block) before ∷ decrypted_blocks words block blocks
 
 -- the number of bytes that pad a text of n bytes to whole blocks of 16, from 1 to 16 (RFC 5652, 6.3)
 abbrev pub padding_size : ℕ → ℕ
@@ -44,15 +45,15 @@ pub record IsPaddedText (bytes text : List ℕ) : Type 0 where
 
 -- the cipher text of a text: its padded blocks in a chain
 unfoldable pub cbc_encrypted : List (List ℕ) → List ℕ → List ℕ → List ℕ
-cbc_encrypted words iv text = concat (enciphered words iv (blocks_of (padded text)))
+cbc_encrypted words iv text = concat (encrypted_blocks words iv (blocks_of (padded text)))
 
 -- the padded text of a cipher text
-unfoldable pub cbc_deciphered : List (List ℕ) → List ℕ → List ℕ → List ℕ
-cbc_deciphered words iv bytes = concat (deciphered words iv (blocks_of bytes))
+unfoldable pub cbc_decrypted : List (List ℕ) → List ℕ → List ℕ → List ℕ
+cbc_decrypted words iv bytes = concat (decrypted_blocks words iv (blocks_of bytes))
 
 -- this text is what a cipher text has under its padding
 abbrev pub IsCbcText : List (List ℕ) → List ℕ → List ℕ → List ℕ → Type 0
-IsCbcText words iv bytes text = IsPaddedText (cbc_deciphered words iv bytes) text
+IsCbcText words iv bytes text = IsPaddedText (cbc_decrypted words iv bytes) text
 
 -- the padded text of a cipher text ends in no padding
 abbrev pub HasNoPadding : List (List ℕ) → List ℕ → List ℕ → Type 0

@@ -1,5 +1,5 @@
--- Bytes as the elements of the field GF(2^8) (FIPS 197, section 4). A byte is a number below 256, and
--- its bits are the coefficients of a polynomial: bit i is that of x^i.
+-- Bytes as the elements of the field GF(2^8) (FIPS 197, update 1, section 4). A byte is a number below 256,
+-- and its bits are the coefficients of a polynomial: bit i is that of x^i.
 use Rattle.std.specs.Prelude.{ℕ, zero, suc, ◌+◌, ◌*◌, ◌^◌, ◌==◌, bit_xor, find, unwrap_or}
 use Rattle.std.specs.Int.{bit_at}
 use Rattle.std.specs.List.{range_with_len}
@@ -34,7 +34,7 @@ a • b = remainder 7 (polynomial_product 8 a b)
 unfoldable pub inverse : ℕ → ℕ
 inverse b = unwrap_or (find (λ c. b • c == 1) (range_with_len 0 256)) 0
 
--- x^n, by products with x (4.2.1)
+-- x^n (4.2)
 unfoldable pub power_of_x : ℕ → ℕ
 power_of_x zero = 1
 power_of_x (suc n) = 2 • power_of_x n

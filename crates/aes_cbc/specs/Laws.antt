@@ -13,14 +13,14 @@ pub record IsBlock (xs : List ℕ) : Type 0 where
   pub are_bytes : AreBytes xs
   pub is_whole : length xs ≡ 16
 
--- a block that is enciphered and then deciphered is the block again
-abbrev pub DecipheringUndoesEnciphering : Type 0
-DecipheringUndoesEnciphering =
+-- a block under the cipher and then under its inverse is the block again
+abbrev pub InverseCipherUndoesCipher : Type 0
+InverseCipherUndoesCipher =
     (key block : List ℕ) → IsBlock key → IsBlock block → inv_cipher (key_expansion key) (cipher (key_expansion key) block) ≡ block
 
--- a block that is deciphered and then enciphered is the block again
-abbrev pub EncipheringUndoesDeciphering : Type 0
-EncipheringUndoesDeciphering =
+-- a block under the inverse cipher and then under the cipher is the block again
+abbrev pub CipherUndoesInverseCipher : Type 0
+CipherUndoesInverseCipher =
     (key block : List ℕ) → IsBlock key → IsBlock block → cipher (key_expansion key) (inv_cipher (key_expansion key) block) ≡ block
 
 -- a text that is encrypted is whole blocks, which are decrypted to that text and to no other

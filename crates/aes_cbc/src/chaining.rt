@@ -1,7 +1,7 @@
 //! Cipher block chaining over a padded text.
 ghost use Rattle.std.specs.Prelude.{◌≡◌, ℕ, ◌↔◌, ◌++◌, length, IfOk, Err};
 ghost use Rattle.std.specs.List.{concat};
-ghost use Rattle.aes_cbc.specs.Chaining.{AreWholeBlocks, HasBadLength, IsCbcText, HasNoPadding, HasText, cbc_encrypted, deciphered, last_or};
+ghost use Rattle.aes_cbc.specs.Chaining.{AreWholeBlocks, HasBadLength, IsCbcText, HasNoPadding, HasText, cbc_encrypted, decrypted_blocks, last_or};
 
 use crate::padding::{padded_block, padding_of};
 use crate::steps::sum_of_blocks;
@@ -65,7 +65,7 @@ pub fn cbc_decrypt(
     let Some(size) = padding_of(&end) else {
         return Err(CbcFault::Padding);
     };
-    match decipher(alloc, schedule, iv, front, &end[..16 - size]) {
+    match decrypt_blocks(alloc, schedule, iv, front, &end[..16 - size]) {
         Ok(text) => Ok(text),
         Err(NoMemory) => Err(CbcFault::NoMemory),
     }
@@ -81,8 +81,8 @@ fn last_or(before: &[u8; 16], blocks: &[[u8; 16]]) -> [u8; 16]
     }
 }
 
-// The blocks, deciphered in a chain, and then the end of the text.
-fn decipher(
+// The blocks, decrypted in a chain, and then the end of the text.
+fn decrypt_blocks(
     alloc: Global,
     schedule: &Schedule,
     iv: &[u8; 16],
@@ -90,7 +90,7 @@ fn decipher(
     end: &[u8],
 ) -> Result<Vec<u8>, NoMemory>
     ensures { IfOk result (λ text. text.items ≡
-        concat (deciphered schedule.now iv.now blocks.now) ++ end.now) }
+        concat (decrypted_blocks schedule.now iv.now blocks.now) ++ end.now) }
 {
     let size = blocks.as_flattened().len() + end.len();
     let mut text = Vec::with_capacity(alloc, size)?;

@@ -1,14 +1,14 @@
 //! What holds of all keys and texts, by the definitions alone.
-ghost use Rattle.aes_cbc.specs.Laws.{DecipheringUndoesEnciphering, EncipheringUndoesDeciphering, DecryptionUndoesEncryption};
+ghost use Rattle.aes_cbc.specs.Laws.{InverseCipherUndoesCipher, CipherUndoesInverseCipher, DecryptionUndoesEncryption};
 
-/// A block that is enciphered and then deciphered under one key is the block again.
-pub fn deciphering_undoes_enciphering()
-    ensures { DecipheringUndoesEnciphering }
+/// A block that is encrypted and then decrypted under one key is the block again.
+pub fn inverse_cipher_undoes_cipher()
+    ensures { InverseCipherUndoesCipher }
 {}
 
-/// A block that is deciphered and then enciphered under one key is the block again.
-pub fn enciphering_undoes_deciphering()
-    ensures { EncipheringUndoesDeciphering }
+/// A block that is decrypted and then encrypted under one key is the block again.
+pub fn cipher_undoes_inverse_cipher()
+    ensures { CipherUndoesInverseCipher }
 {}
 
 /// A text that is encrypted and then decrypted, under one key and initialization vector, is the text again.

@@ -13,7 +13,7 @@ mod tables;
 pub use chaining::{cbc_decrypt, cbc_encrypt};
 pub use fault::CbcFault;
 pub use laws::{
-    deciphering_undoes_enciphering, decryption_undoes_encryption, enciphering_undoes_deciphering,
+    cipher_undoes_inverse_cipher, decryption_undoes_encryption, inverse_cipher_undoes_cipher,
 };
 pub use memory::NoMemory;
 pub use schedule::Schedule;

@@ -35,7 +35,7 @@ impl Schedule {
         Schedule { words }
     }
 
-    /// The block, enciphered.
+    /// The block, encrypted.
     pub fn encrypt_block(&self, block: &[u8; 16]) -> [u8; 16]
         ensures { result ≡ cipher self.now block.now }
     {
@@ -47,7 +47,7 @@ impl Schedule {
         sum_of_blocks(&substitute(&state), &self.round_key(10))
     }
 
-    /// The block, deciphered.
+    /// The block, decrypted.
     pub fn decrypt_block(&self, block: &[u8; 16]) -> [u8; 16]
         ensures { result ≡ inv_cipher self.now block.now }
     {
@@ -60,7 +60,7 @@ impl Schedule {
     }
 
     #[inline]
-    fn round_key(&self, round: usize) -> [u8; 16]
+    pub(crate) fn round_key(&self, round: usize) -> [u8; 16]
         requires { round ≤ 10 }
         ensures { result ≡ round_key self.now round }
     {

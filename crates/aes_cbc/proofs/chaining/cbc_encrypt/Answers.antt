@@ -1,16 +1,16 @@
 use Rattle.std.proofs.Common.{◌++◌, ap, ◌∙◌}
 use Rattle.std.specs.List.{concat}
 use Rattle.aes_cbc.specs.Cipher.{cipher}
-use Rattle.aes_cbc.specs.Chaining.{enciphered}
-use Rattle.aes_cbc.proofs.ChainSteps.{enciphered_more, encrypted_from}
+use Rattle.aes_cbc.specs.Chaining.{encrypted_blocks}
+use Rattle.aes_cbc.proofs.ChainSteps.{encrypted_more, encrypted_from}
 use Rattle.aes_cbc.proofs.chaining.cbc_encrypt.Goals as goal
 
 pub chain-init : goal.chain-init
-chain-init c = λ rest. ap (λ t. t ++ concat (enciphered c.args.schedule.now c.args.iv.now (c.as_chunks.result.0.now ++ rest))) c.in_ok-cipher.ensures.items
+chain-init c = λ rest. ap (λ t. t ++ concat (encrypted_blocks c.args.schedule.now c.args.iv.now (c.as_chunks.result.0.now ++ rest))) c.in_ok-cipher.ensures.items
 
 pub chain-preserved : goal.chain-preserved
 chain-preserved c =
-    enciphered_more c.args.schedule.now c.args.iv.now c.as_chunks.result.0.now c.chain.cipher.items c.chain.chained c.chain.block-index
+    encrypted_more c.args.schedule.now c.args.iv.now c.as_chunks.result.0.now c.chain.cipher.items c.chain.chained c.chain.block-index
     c.encrypt_block-chained.result c.extend_from_slice.new.self.items c.chain-test.true c.chain.invariant (c.encrypt_block-chained.ensures ∙ ap (cipher c.args.schedule.now) c.sum_of_blocks.ensures) c.in_ok-extend_from_slice.ensures.items
 
 pub returns : goal.returns
