@@ -5,7 +5,8 @@ use Rattle.std.specs.Simd.{first_chunks}
 use Rattle.std.proofs.lemmas.List.{append-nil, append_assoc, drop_more, drop_all, get_or_default}
 use Rattle.aes_cbc.specs.Block.{sum_of_bytes}
 use Rattle.aes_cbc.specs.Cipher.{cipher, inv_cipher}
-use Rattle.aes_cbc.specs.Chaining.{AreWholeBlocks, blocks_of, encrypted_blocks, decrypted_blocks, padded, IsPaddedText, IsCbcText, HasText, HasNoPadding, EndsInPadding, cbc_encrypted, cbc_decrypted, last_or}
+use Rattle.aes_cbc.specs.Padding.{padded, IsPaddedText, EndsInPadding}
+use Rattle.aes_cbc.specs.Chaining.{AreWholeBlocks, blocks_of, encrypted_blocks, decrypted_blocks, IsCbcText, HasText, HasNoPadding, cbc_encrypted, cbc_decrypted, last_or}
 use Rattle.aes_cbc.proofs.PaddingLemmas.{blocks_of-padded, padded_from_end, padded_at_end, text_of_block, block_of_text}
 
 concat-push : (xss : List (List ℕ)) (xs : List ℕ) → concat (xss ++ xs ∷ []) ≡ concat xss ++ xs
@@ -87,38 +88,40 @@ module _ (words : List (List ℕ)) where
       (decrypted_blocks-push block blocks last
       ∙ ap (λ b. decrypted_blocks words block blocks ++ sum_of_bytes (inv_cipher words last) b ∷ []) (sym (last_or-cons before block blocks)))
 
-  -- the end of the padded text, from what the code computes
-  pub end_from : (iv : List ℕ) (front : List (List ℕ)) (last plain before end : List ℕ) → plain ≡ inv_cipher words last → before ≡ last_or iv front
-      → end ≡ sum_of_bytes plain before → end ≡ sum_of_bytes (inv_cipher words last) (last_or iv front)
-  end_from iv front last plain before end is_plain is_before is_end = is_end ∙ ap₂ sum_of_bytes is_plain is_before
+  -- ---- the last block alone
 
-  module _ (iv bytes : List ℕ) (blocks front : List (List ℕ)) (last end : List ℕ) (are_blocks : blocks ≡ blocks_of bytes) (is_split : blocks ≡ front ++ last ∷ [])
-      (is_end : end ≡ sum_of_bytes (inv_cipher words last) (last_or iv front)) where
-    -- the padded text: what the front blocks give, and the last one
-    padded_text : cbc_decrypted words iv bytes ≡ concat (decrypted_blocks words iv front) ++ end
-    unfolding cbc_decrypted
+  -- the padded text of a cipher text: what the front blocks give, and an end
+  pub record IsSplit (iv bytes : List ℕ) (front : List (List ℕ)) (end : List ℕ) : Type 0 where
+    pub padded_text : cbc_decrypted words iv bytes ≡ concat (decrypted_blocks words iv front) ++ end
+
+  pub split_from : (iv bytes : List ℕ) (blocks front : List (List ℕ)) (last end : List ℕ) → blocks ≡ blocks_of bytes → blocks ≡ front ++ last ∷ []
+      → end ≡ sum_of_bytes (inv_cipher words last) (last_or iv front) → IsSplit iv bytes front end
+  unfolding cbc_decrypted
+  split_from iv bytes blocks front last end are_blocks is_split is_end = record {
     padded_text =
         ap (λ bs. concat (decrypted_blocks words iv bs)) (sym are_blocks ∙ is_split) ∙ ap concat (decrypted_blocks-push iv front last)
         ∙ concat-push (decrypted_blocks words iv front) (sum_of_bytes (inv_cipher words last) (last_or iv front))
-        ∙ ap (λ e. concat (decrypted_blocks words iv front) ++ e) (sym is_end)
+        ∙ ap (λ e. concat (decrypted_blocks words iv front) ++ e) (sym is_end);
+  }
 
-    -- a text, from the padding of the last block
+  module _ (iv bytes : List ℕ) (front : List (List ℕ)) (end : List ℕ) (split : IsSplit iv bytes front end) where
+    -- a text, from the padding of the end
     pub is_text : (size : ℕ) (text : List ℕ) → EndsInPadding end size → text ≡ concat (decrypted_blocks words iv front) ++ take (16 - size) end → IsCbcText words iv bytes text
     is_text size text ends is =
+        let begin : List ℕ = concat (decrypted_blocks words iv front) in
         let P : List ℕ → Type 0 = λ t. IsCbcText words iv bytes t in
-        let Q : List ℕ → Type 0 = λ whole. IsPaddedText whole (concat (decrypted_blocks words iv front) ++ take (16 - size) end) in
-        subst P (sym is)
-        (subst Q (sym padded_text)
-        (padded_from_end (concat (decrypted_blocks words iv front)) end (take (16 - size) end) (text_of_block end size ends)))
+        let Q : List ℕ → Type 0 = λ whole. IsPaddedText whole (begin ++ take (16 - size) end) in
+        subst P (sym is) (subst Q (sym split.padded_text) (padded_from_end begin end (take (16 - size) end) (text_of_block end size ends)))
 
     pub has_text : (size : ℕ) → EndsInPadding end size → HasText words iv bytes
     has_text size ends =
-        (concat (decrypted_blocks words iv front) ++ take (16 - size) end, is_text size (concat (decrypted_blocks words iv front) ++ take (16 - size) end) ends refl)
+        let text : List ℕ = concat (decrypted_blocks words iv front) ++ take (16 - size) end in
+        (text, is_text size text ends refl)
 
-    -- no text, where the last block ends in no padding
+    -- no text, where the end has no padding
     pub has_no_padding : length end ≡ 16 → ((size : ℕ) → EndsInPadding end size → ⊥) → HasNoPadding words iv bytes
     has_no_padding whole none text is =
+        let begin : List ℕ = concat (decrypted_blocks words iv front) in
         let Q : List ℕ → Type 0 = λ bs. IsPaddedText bs text in
-        let at_end : IsPaddedText end (drop (length (concat (decrypted_blocks words iv front))) text) =
-        padded_at_end (concat (decrypted_blocks words iv front)) end text whole (subst Q padded_text is) in
-        none at_end.size (block_of_text end (drop (length (concat (decrypted_blocks words iv front))) text) whole at_end)
+        let at_end : IsPaddedText end (drop (length begin) text) = padded_at_end begin end text whole (subst Q split.padded_text is) in
+        none at_end.size (block_of_text end (drop (length begin) text) whole at_end)

@@ -6,7 +6,8 @@ use Rattle.std.proofs.lemmas.List.Elements.{All-cons, All-nil, All-head, All-tai
 use Rattle.aes_cbc.specs.Block.{sum_of_bytes}
 use Rattle.aes_cbc.specs.Expansion.{key_expansion}
 use Rattle.aes_cbc.specs.Cipher.{cipher, inv_cipher}
-use Rattle.aes_cbc.specs.Chaining.{AreWholeBlocks, blocks_of, encrypted_blocks, decrypted_blocks, padded, IsPaddedText, cbc_encrypted, cbc_decrypted, last_or}
+use Rattle.aes_cbc.specs.Padding.{padded, IsPaddedText}
+use Rattle.aes_cbc.specs.Chaining.{AreWholeBlocks, blocks_of, encrypted_blocks, decrypted_blocks, cbc_encrypted, cbc_decrypted, last_or}
 use Rattle.aes_cbc.specs.Laws.{AreBytes, IsBlock, DecryptsTo, DecryptionUndoesEncryption}
 use Rattle.aes_cbc.proofs.BlockLemmas.{IsBlock-sum, sum_twice_of_blocks}
 use Rattle.aes_cbc.proofs.ExpansionLemmas.{AreRoundKeys, AreRoundKeys-key_expansion}

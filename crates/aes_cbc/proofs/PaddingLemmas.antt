@@ -3,7 +3,8 @@ use Rattle.std.proofs.Common.{◌≡◌, ◌≢◌, ◌⊎◌, ℕ, zero, suc, �
 use Rattle.std.specs.Simd.{first_chunks}
 use Rattle.std.proofs.lemmas.List.{length-append, length-drop, length-replicate, take-append-drop, append_assoc, append_cancel_right, get_or-append-add, get_or-replicate, drop-append-le, take_all, drop_at, get_or-drop, drop-replicate}
 use Rattle.std.proofs.lemmas.List.Elements.{All-append, All-replicate}
-use Rattle.aes_cbc.specs.Chaining.{AreWholeBlocks, blocks_of, padding_size, padded, IsPaddedText, EndsInPadding}
+use Rattle.aes_cbc.specs.Padding.{padding_size, padded, IsPaddedText, EndsInPadding}
+use Rattle.aes_cbc.specs.Chaining.{AreWholeBlocks, blocks_of}
 use Rattle.aes_cbc.specs.Laws.{AreBytes}
 use Rattle.aes_cbc.proofs.Chunks.{chunks_more, chunks-append}
 

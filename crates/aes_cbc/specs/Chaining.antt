@@ -1,10 +1,10 @@
--- Cipher block chaining (SP 800-38A, section 6.2), and the padding of a text to whole blocks (RFC 5652,
--- section 6.3).
-use Rattle.std.specs.Prelude.{◌≡◌, ◌≢◌, ◌⊎◌, ℕ, ◌-◌, ◌/◌, ◌%◌, ◌<◌, ◌≤◌, List, [], ◌∷◌, ◌++◌, length, drop, replicate, slice_index_or}
+-- Cipher block chaining of a padded text (SP 800-38A, section 6.2).
+use Rattle.std.specs.Prelude.{◌≡◌, ◌≢◌, ◌⊎◌, ℕ, ◌-◌, ◌/◌, ◌%◌, ◌<◌, List, [], ◌∷◌, length, slice_index_or}
 use Rattle.std.specs.List.{concat}
 use Rattle.std.specs.Simd.{first_chunks}
 use Rattle.aes_cbc.specs.Block.{sum_of_bytes}
 use Rattle.aes_cbc.specs.Cipher.{cipher, inv_cipher}
+use Rattle.aes_cbc.specs.Padding.{padded, IsPaddedText}
 
 -- the whole blocks of a text, in order
 abbrev pub blocks_of : List ℕ → List (List ℕ)
@@ -27,21 +27,6 @@ unfoldable pub decrypted_blocks : List (List ℕ) → List ℕ → List (List �
 decrypted_blocks words before [] = []
 decrypted_blocks words before (block ∷ blocks) =
     sum_of_bytes (inv_cipher words block) before ∷ decrypted_blocks words block blocks
-
--- the number of bytes that pad a text of n bytes to whole blocks of 16, from 1 to 16 (RFC 5652, 6.3)
-abbrev pub padding_size : ℕ → ℕ
-padding_size n = 16 - n % 16
-
--- a text and its padding: so many bytes, each of that value (RFC 5652, 6.3)
-unfoldable pub padded : List ℕ → List ℕ
-padded text = text ++ replicate (padding_size (length text)) (padding_size (length text))
-
--- these bytes are the text and a padding: p bytes of value p, with p from 1 to 16 (RFC 5652, 6.3)
-pub record IsPaddedText (bytes text : List ℕ) : Type 0 where
-  pub size : ℕ
-  pub is_some : 1 ≤ size
-  pub is_at_most_a_block : size ≤ 16
-  pub is_whole : bytes ≡ text ++ replicate size size
 
 -- the cipher text of a text: its padded blocks in a chain
 unfoldable pub cbc_encrypted : List (List ℕ) → List ℕ → List ℕ → List ℕ
@@ -66,12 +51,6 @@ HasText words iv bytes = (text : List ℕ) × IsCbcText words iv bytes text
 -- these bytes are no whole blocks
 abbrev pub HasBadLength : List ℕ → Type 0
 HasBadLength bytes = (length bytes ≡ 0) ⊎ (length bytes % 16 ≢ 0)
-
--- a block that ends in a padding of this size
-pub record EndsInPadding (block : List ℕ) (size : ℕ) : Type 0 where
-  pub is_some : 1 ≤ size
-  pub is_at_most_a_block : size ≤ 16
-  pub is_tail : drop (16 - size) block ≡ replicate size size
 
 -- the last one of these blocks, or the given one where there is none
 abbrev pub last_or : List ℕ → List (List ℕ) → List ℕ

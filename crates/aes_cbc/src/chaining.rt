@@ -1,6 +1,8 @@
 //! Cipher block chaining over a padded text.
 ghost use Rattle.std.specs.Prelude.{◌≡◌, ℕ, ◌↔◌, ◌++◌, length, IfOk, Err};
 ghost use Rattle.std.specs.List.{concat};
+ghost use Rattle.aes_cbc.specs.Block.{sum_of_bytes};
+ghost use Rattle.aes_cbc.specs.Cipher.{inv_cipher};
 ghost use Rattle.aes_cbc.specs.Chaining.{AreWholeBlocks, HasBadLength, IsCbcText, HasNoPadding, HasText, cbc_encrypted, decrypted_blocks, last_or};
 
 use crate::padding::{padded_block, padding_of};
@@ -10,6 +12,8 @@ use std::alloc::Global;
 
 /// The cipher text of a text: its blocks in a chain that begins with the initialization vector (SP 800-38A,
 /// section 6.2), after a padding of 1 to 16 bytes (RFC 5652, section 6.3).
+///
+/// The vector is to be one that nobody can foretell (SP 800-38A, appendix C), and it does not stand in the answer.
 ///
 /// It takes time linear in the length of the text, and reserves its memory once.
 pub fn cbc_encrypt(
@@ -61,24 +65,20 @@ pub fn cbc_decrypt(
     let Some((last, front)) = blocks.split_last() else {
         return Err(bad_length);
     };
-    let end = sum_of_blocks(&schedule.decrypt_block(last), &last_or(iv, front));
+    let end = decrypt_last(schedule, iv, front, last);
     let Some(size) = padding_of(&end) else {
         return Err(CbcFault::Padding);
     };
-    match decrypt_blocks(alloc, schedule, iv, front, &end[..16 - size]) {
-        Ok(text) => Ok(text),
-        Err(NoMemory) => Err(CbcFault::NoMemory),
-    }
+    let text = decrypt_blocks(alloc, schedule, iv, front, &end[..16 - size])?;
+    Ok(text)
 }
 
-// The last one of the blocks, or the given one where there is none.
-fn last_or(before: &[u8; 16], blocks: &[[u8; 16]]) -> [u8; 16]
-    ensures { result ≡ last_or before.now blocks.now }
+// The last block, decrypted in a chain, from the blocks in front of it.
+fn decrypt_last(schedule: &Schedule, iv: &[u8; 16], front: &[[u8; 16]], last: &[u8; 16]) -> [u8; 16]
+    ensures { result ≡ sum_of_bytes (inv_cipher schedule.now last.now) (last_or iv.now front.now) }
 {
-    match blocks.last() {
-        Some(block) => *block,
-        None => *before,
-    }
+    let before = front.last().unwrap_or(iv);
+    sum_of_blocks(&schedule.decrypt_block(last), before)
 }
 
 // The blocks, decrypted in a chain, and then the end of the text.

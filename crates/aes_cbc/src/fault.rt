@@ -1,3 +1,4 @@
+use crate::NoMemory;
 use std::error::Error;
 use std::fmt;
 
@@ -22,3 +23,14 @@ impl fmt::Display for CbcFault {
 }
 
 impl Error for CbcFault {}
+
+impl From<NoMemory> for CbcFault {
+    ghost use Rattle.std.specs.Prelude.{◌≡◌};
+    ghost use Rattle.aes_cbc.specs.declared.fault.CbcFault.TheVariants.{NoMemory};
+
+    ghost from_gives = { λ _ fault. fault ≡ NoMemory };
+
+    fn from(_no_memory: NoMemory) -> CbcFault {
+        CbcFault::NoMemory
+    }
+}

@@ -1,6 +1,6 @@
 // The padding of a text to whole blocks (RFC 5652, section 6.3).
 ghost use Rattle.std.specs.Prelude.{◌≡◌, ◌<◌, ◌≤◌, ℕ, ◌↔◌, length, replicate, IsTrue, MatchOption};
-ghost use Rattle.aes_cbc.specs.Chaining.{padded, EndsInPadding};
+ghost use Rattle.aes_cbc.specs.Padding.{padded, EndsInPadding};
 
 // The last block of a text, from what is left after its whole blocks.
 pub(crate) fn padded_block(rest: &[u8]) -> [u8; 16]

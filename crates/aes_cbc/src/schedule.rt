@@ -6,6 +6,7 @@ ghost use Rattle.aes_cbc.specs.Cipher.{round_key, cipher, inv_cipher};
 
 use crate::steps::{inv_mix_columns, mix_columns, restore, substitute, sum_of_blocks};
 use crate::tables::{round_constant, sub_byte};
+use std::fmt;
 use std::marker::Model;
 
 /// A key of AES-128, expanded once for many blocks. Contracts see its 44 words of four bytes: the words 4n to
@@ -21,6 +22,13 @@ impl Model for Schedule {
     ghost Value = { List (List ℕ) };
 
     ghost view = { λ schedule. schedule.words };
+}
+
+impl fmt::Debug for Schedule {
+    // The words are a secret.
+    fn fmt<W: fmt::Write>(&self, f: &mut fmt::Formatter<W>) -> fmt::Result {
+        f.write_str("Schedule { .. }")
+    }
 }
 
 impl Schedule {
@@ -59,6 +67,7 @@ impl Schedule {
         sum_of_blocks(&restore(&state), &self.round_key(0))
     }
 
+    // The four words of a round key, as the columns of a block.
     #[inline]
     pub(crate) fn round_key(&self, round: usize) -> [u8; 16]
         requires { round ≤ 10 }

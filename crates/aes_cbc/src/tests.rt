@@ -103,10 +103,11 @@ fn a_bad_length_is_told(rt: HostRuntime) -> Result<(), Fail> {
     let alloc = rt.alloc();
     let schedule = Schedule::new(&KEY.to_be_bytes());
     let cipher = bytes_of(alloc, &CIPHER)?;
-    for len in [0, 1, 15, 17, 63] {
-        let fault = CbcFault::Length { len: len as u64 };
-        let answer = cbc_decrypt(alloc, &schedule, &IV.to_be_bytes(), &cipher[..len]);
-        assert_eq!(rt; answer.err(), Some(fault));
+    for len in 0..cipher.len() {
+        if len == 0 || len % 16 != 0 {
+            let answer = cbc_decrypt(alloc, &schedule, &IV.to_be_bytes(), &cipher[..len]);
+            assert_eq!(rt; answer.err(), Some(CbcFault::Length { len: len as u64 }));
+        }
     }
     Ok(())
 }
@@ -141,7 +142,7 @@ fn a_wrong_padding_is_told(rt: HostRuntime) -> Result<(), Fail> {
 }
 
 #[test]
-fn the_laws_can_be_called_and_faults_printed(rt: HostRuntime) -> Result<(), Fail> {
+fn the_laws_are_called_and_texts_printed(rt: HostRuntime) -> Result<(), Fail> {
     inverse_cipher_undoes_cipher();
     cipher_undoes_inverse_cipher();
     decryption_undoes_encryption();
@@ -155,5 +156,8 @@ fn the_laws_can_be_called_and_faults_printed(rt: HostRuntime) -> Result<(), Fail
         assert_eq!(rt; format!(in alloc; "{fault}")?.as_str(), text);
     }
     assert_eq!(rt; format!(in alloc; "{NoMemory}")?.as_str(), "no memory");
+    let schedule = Schedule::new(&KEY.to_be_bytes());
+    let shown = format!(in alloc; "{schedule:?}")?;
+    assert_eq!(rt; shown.as_str(), "Schedule { .. }");
     Ok(())
 }

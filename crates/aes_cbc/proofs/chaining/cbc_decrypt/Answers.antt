@@ -1,46 +1,48 @@
-use Rattle.std.proofs.Common.{refl, rules, ◌≡◌, length}
-use Rattle.aes_cbc.specs.Chaining.{AreWholeBlocks}
-use Rattle.aes_cbc.proofs.ChainSteps.{end_from, is_text, has_text, has_no_padding}
+use Rattle.std.proofs.Common.{refl, rules, ◌≡◌, length, Result, Err, IsErrAnd}
+use Rattle.aes_cbc.specs.declared.fault.CbcFault.{CbcFault}
+use Rattle.aes_cbc.specs.declared.fault.CbcFault.TheVariants.{Padding, NoMemory}
+use Rattle.aes_cbc.specs.Chaining.{AreWholeBlocks, HasText}
+use Rattle.aes_cbc.proofs.ChainSteps.{IsSplit, split_from, is_text, has_text, has_no_padding}
 use Rattle.aes_cbc.proofs.chaining.cbc_decrypt.Goals as goal
+
+-- want of memory is no wrong padding
+no_wrong_padding : {T : Type 0} (answer : Result T CbcFault) → IsErrAnd answer (λ fault. fault ≡ NoMemory) → answer ≡ Err Padding → ⊥
+no_wrong_padding answer memory padding =
+    let same : Padding ≡ NoMemory = rw padding at memory in cc
 
 pub returns-in_default-padding_of-clause-padding : goal.returns-in_default-padding_of-clause-padding
 returns-in_default-padding_of-clause-padding c =
-    let size : length c.sum_of_blocks-end.result ≡ 16 = search rules in
+    let split : IsSplit c.args.schedule.now c.args.iv.now c.args.cipher.now c.in-Some.front.now c.decrypt_last-end.result =
+    split_from _ _ _ _ _ _ _ c.as_chunks.ensures.front c.in-Some.ensures.cases.0 c.decrypt_last-end.ensures in
     let whole : AreWholeBlocks c.args.cipher.now = search rules in
-    let none = has_no_padding
-    c.args.schedule.now c.args.iv.now c.args.cipher.now c.as_chunks.result.0.now c.in-Some.front.now c.in-Some.last.now c.sum_of_blocks-end.result
-    c.as_chunks.ensures.front c.in-Some.ensures.cases.0 (end_from c.args.schedule.now c.args.iv.now c.in-Some.front.now c.in-Some.last.now c.decrypt_block.result c.last_or.result c.sum_of_blocks-end.result c.decrypt_block.ensures c.last_or.ensures c.sum_of_blocks-end.ensures) size c.in_default-padding_of.ensures in
-    (λ e. (whole, none), λ h. refl)
+    let size : length c.decrypt_last-end.result ≡ 16 = search rules in
+    (λ e. (whole, has_no_padding _ _ _ _ _ split size c.in_default-padding_of.ensures), λ h. refl)
 
-pub returns-in-Ok-clause-text : goal.returns-in-Ok-clause-text
-returns-in-Ok-clause-text c =
-    let whole : AreWholeBlocks c.args.cipher.now = search rules in (
-      whole,
-      is_text
-          c.args.schedule.now c.args.iv.now c.args.cipher.now c.as_chunks.result.0.now c.in-Some.front.now c.in-Some.last.now c.sum_of_blocks-end.result
-          c.as_chunks.ensures.front c.in-Some.ensures.cases.0 (end_from c.args.schedule.now c.args.iv.now c.in-Some.front.now c.in-Some.last.now c.decrypt_block.result c.last_or.result c.sum_of_blocks-end.result c.decrypt_block.ensures c.last_or.ensures c.sum_of_blocks-end.ensures) c.in-Some-padding_of.size c.in-Ok.text.items c.in-Some-padding_of.ensures c.in-Ok.ensures,
-    )
-
-pub returns-in-Ok-clause-padding : goal.returns-in-Ok-clause-padding
-returns-in-Ok-clause-padding c =
-    let text = has_text
-    c.args.schedule.now c.args.iv.now c.args.cipher.now c.as_chunks.result.0.now c.in-Some.front.now c.in-Some.last.now c.sum_of_blocks-end.result
-    c.as_chunks.ensures.front c.in-Some.ensures.cases.0 (end_from c.args.schedule.now c.args.iv.now c.in-Some.front.now c.in-Some.last.now c.decrypt_block.result c.last_or.result c.sum_of_blocks-end.result c.decrypt_block.ensures c.last_or.ensures c.sum_of_blocks-end.ensures) c.in-Some-padding_of.size c.in-Some-padding_of.ensures in
-    (λ e. cc, λ h. absurd (h.1 text.0 text.1))
-
-pub returns-in-Err-clause-padding : goal.returns-in-Err-clause-padding
-returns-in-Err-clause-padding c =
-    let text = has_text
-    c.args.schedule.now c.args.iv.now c.args.cipher.now c.as_chunks.result.0.now c.in-Some.front.now c.in-Some.last.now c.sum_of_blocks-end.result
-    c.as_chunks.ensures.front c.in-Some.ensures.cases.0 (end_from c.args.schedule.now c.args.iv.now c.in-Some.front.now c.in-Some.last.now c.decrypt_block.result c.last_or.result c.sum_of_blocks-end.result c.decrypt_block.ensures c.last_or.ensures c.sum_of_blocks-end.ensures) c.in-Some-padding_of.size c.in-Some-padding_of.ensures in
-    (λ e. cc, λ h. absurd (h.1 text.0 text.1))
-
-pub returns-in-Err-clause-memory : goal.returns-in-Err-clause-memory
-returns-in-Err-clause-memory c =
+pub returns-clause-text : goal.returns-clause-text
+returns-clause-text c =
+    let split : IsSplit c.args.schedule.now c.args.iv.now c.args.cipher.now c.in-Some.front.now c.decrypt_last-end.result =
+    split_from _ _ _ _ _ _ _ c.as_chunks.ensures.front c.in-Some.ensures.cases.0 c.decrypt_last-end.ensures in
     let whole : AreWholeBlocks c.args.cipher.now = search rules in
-    λ e. (
-      whole,
-      has_text
-          c.args.schedule.now c.args.iv.now c.args.cipher.now c.as_chunks.result.0.now c.in-Some.front.now c.in-Some.last.now c.sum_of_blocks-end.result
-          c.as_chunks.ensures.front c.in-Some.ensures.cases.0 (end_from c.args.schedule.now c.args.iv.now c.in-Some.front.now c.in-Some.last.now c.decrypt_block.result c.last_or.result c.sum_of_blocks-end.result c.decrypt_block.ensures c.last_or.ensures c.sum_of_blocks-end.ensures) c.in-Some-padding_of.size c.in-Some-padding_of.ensures,
-    )
+    (whole, is_text _ _ _ _ _ split c.in-Some-padding_of.size c.in_ok-text.text.items c.in-Some-padding_of.ensures c.in_ok-text.ensures)
+
+pub returns-clause-padding : goal.returns-clause-padding
+returns-clause-padding c =
+    let split : IsSplit c.args.schedule.now c.args.iv.now c.args.cipher.now c.in-Some.front.now c.decrypt_last-end.result =
+    split_from _ _ _ _ _ _ _ c.as_chunks.ensures.front c.in-Some.ensures.cases.0 c.decrypt_last-end.ensures in
+    let text : HasText c.args.schedule.now c.args.iv.now c.args.cipher.now = has_text _ _ _ _ _ split c.in-Some-padding_of.size c.in-Some-padding_of.ensures in
+    (λ e. absurd (cc), λ h. absurd (h.1 text.0 text.1))
+
+pub returns-in_err-text-clause-padding : goal.returns-in_err-text-clause-padding
+returns-in_err-text-clause-padding c =
+    let split : IsSplit c.args.schedule.now c.args.iv.now c.args.cipher.now c.in-Some.front.now c.decrypt_last-end.result =
+    split_from _ _ _ _ _ _ _ c.as_chunks.ensures.front c.in-Some.ensures.cases.0 c.decrypt_last-end.ensures in
+    let text : HasText c.args.schedule.now c.args.iv.now c.args.cipher.now = has_text _ _ _ _ _ split c.in-Some-padding_of.size c.in-Some-padding_of.ensures in
+    (λ e. absurd (no_wrong_padding c.from_residual.result c.from_residual.ensures.1 e), λ h. absurd (h.1 text.0 text.1))
+
+pub returns-in_err-text-clause-memory : goal.returns-in_err-text-clause-memory
+returns-in_err-text-clause-memory c =
+    let split : IsSplit c.args.schedule.now c.args.iv.now c.args.cipher.now c.in-Some.front.now c.decrypt_last-end.result =
+    split_from _ _ _ _ _ _ _ c.as_chunks.ensures.front c.in-Some.ensures.cases.0 c.decrypt_last-end.ensures in
+    let whole : AreWholeBlocks c.args.cipher.now = search rules in
+    let text : HasText c.args.schedule.now c.args.iv.now c.args.cipher.now = has_text _ _ _ _ _ split c.in-Some-padding_of.size c.in-Some-padding_of.ensures in
+    λ e. (whole, text)
