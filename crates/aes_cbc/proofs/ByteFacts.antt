@@ -1,6 +1,6 @@
 -- What holds of each of the 256 bytes, computed from the definitions.
 use Rattle.std.proofs.Common.{◌≡◌, ℕ, ◌<◌, get_or, refl, sym, ap, ◌∙◌}
-use Rattle.aes_cbc.specs.Field.{◌⊕◌, ◌•◌, polynomial_product, remainder}
+use Rattle.aes_cbc.specs.Field.{◌•◌, polynomial_product, remainder}
 use Rattle.aes_cbc.specs.Substitution.{sub_byte, inv_sub_byte}
 use Rattle.aes_cbc.specs.declared.tables.TheConstants.{S_BOX, INV_S_BOX}
 use Rattle.aes_cbc.proofs.FieldLemmas.{agree_at_bytes, byte_at_bytes}

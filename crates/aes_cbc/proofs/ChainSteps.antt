@@ -1,12 +1,11 @@
 -- The code's walks along a chain, block by block.
-use Rattle.std.proofs.Common.{◌≡◌, ℕ, zero, suc, ◌+◌, ◌-◌, ◌*◌, ◌/◌, ◌%◌, ◌<◌, ◌≤◌, List, [], ◌∷◌, ◌++◌, length, take, drop, get_or, refl, sym, ap, ap₂, subst, ◌∙◌, arith}
+use Rattle.std.proofs.Common.{◌≡◌, ℕ, suc, ◌+◌, ◌-◌, ◌*◌, ◌/◌, ◌<◌, ◌≤◌, List, [], ◌∷◌, ◌++◌, length, take, drop, get_or, refl, sym, ap, ap₂, subst, ◌∙◌, arith}
 use Rattle.std.specs.List.{concat}
-use Rattle.std.specs.Simd.{first_chunks}
 use Rattle.std.proofs.lemmas.List.{append-nil, append_assoc, drop_more, drop_all, get_or_default}
 use Rattle.aes_cbc.specs.Block.{sum_of_bytes}
 use Rattle.aes_cbc.specs.Cipher.{cipher, inv_cipher}
 use Rattle.aes_cbc.specs.Padding.{padded, IsPaddedText, EndsInPadding}
-use Rattle.aes_cbc.specs.Chaining.{AreWholeBlocks, blocks_of, encrypted_blocks, decrypted_blocks, IsCbcText, HasText, HasNoPadding, cbc_encrypted, cbc_decrypted, last_or}
+use Rattle.aes_cbc.specs.Chaining.{blocks_of, encrypted_blocks, decrypted_blocks, IsCbcText, HasText, HasNoPadding, cbc_encrypted, cbc_decrypted, last_or}
 use Rattle.aes_cbc.proofs.PaddingLemmas.{blocks_of-padded, padded_from_end, padded_at_end, text_of_block, block_of_text}
 
 concat-push : (xss : List (List ℕ)) (xs : List ℕ) → concat (xss ++ xs ∷ []) ≡ concat xss ++ xs

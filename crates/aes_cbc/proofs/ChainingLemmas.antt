@@ -1,19 +1,18 @@
 -- Decryption in a chain undoes encryption in it, and so it gives the text again.
-use Rattle.std.proofs.Common.{◌≡◌, ℕ, zero, suc, ◌+◌, ◌-◌, ◌*◌, ◌/◌, ◌%◌, ◌<◌, ◌≤◌, List, [], ◌∷◌, ◌++◌, length, get_or, refl, sym, ap, ap₂, subst, ◌∙◌, arith, All}
+use Rattle.std.proofs.Common.{◌≡◌, ℕ, suc, ◌*◌, ◌/◌, List, [], ◌∷◌, length, refl, sym, ap, ap₂, subst, ◌∙◌, arith, All}
 use Rattle.std.specs.List.{concat}
-use Rattle.std.proofs.lemmas.List.{append-nil, append_assoc}
 use Rattle.std.proofs.lemmas.List.Elements.{All-cons, All-nil, All-head, All-tail}
 use Rattle.aes_cbc.specs.Block.{sum_of_bytes}
 use Rattle.aes_cbc.specs.Expansion.{key_expansion}
-use Rattle.aes_cbc.specs.Cipher.{cipher, inv_cipher}
+use Rattle.aes_cbc.specs.Cipher.{cipher}
 use Rattle.aes_cbc.specs.Padding.{padded, IsPaddedText}
-use Rattle.aes_cbc.specs.Chaining.{AreWholeBlocks, blocks_of, encrypted_blocks, decrypted_blocks, cbc_encrypted, cbc_decrypted, last_or}
+use Rattle.aes_cbc.specs.Chaining.{blocks_of, encrypted_blocks, decrypted_blocks, cbc_encrypted, cbc_decrypted}
 use Rattle.aes_cbc.specs.Laws.{AreBytes, IsBlock, DecryptsTo, DecryptionUndoesEncryption}
 use Rattle.aes_cbc.proofs.BlockLemmas.{IsBlock-sum, sum_twice_of_blocks}
 use Rattle.aes_cbc.proofs.ExpansionLemmas.{AreRoundKeys, AreRoundKeys-key_expansion}
 use Rattle.aes_cbc.proofs.CipherLemmas.{IsBlock-cipher, inv_cipher-cipher}
 use Rattle.aes_cbc.proofs.Chunks.{blocks_of-concat, concat-blocks_of, are_blocks-blocks_of, length-concat_of_blocks, length-chunks}
-use Rattle.aes_cbc.proofs.PaddingLemmas.{length-padded, are_whole-padded, are_bytes-padded, is_padded-padded, one_text}
+use Rattle.aes_cbc.proofs.PaddingLemmas.{are_whole-padded, are_bytes-padded, is_padded-padded, one_text}
 
 module _ (words : List (List ℕ)) (keys : AreRoundKeys words) where
   are_blocks-encrypted_blocks : (before : List ℕ) (blocks : List (List ℕ)) → IsBlock before → All IsBlock blocks → All IsBlock (encrypted_blocks words before blocks)

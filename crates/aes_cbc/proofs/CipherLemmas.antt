@@ -1,6 +1,6 @@
 -- The inverse cipher undoes the cipher, and the other way round.
-use Rattle.std.proofs.Common.{◌≡◌, ℕ, zero, suc, ◌+◌, ◌-◌, ◌<◌, ◌≤◌, List, refl, sym, ap, ◌∙◌, add-one, arith}
-use Rattle.aes_cbc.specs.Block.{sum_of_bytes, sub_bytes, inv_sub_bytes, shift_rows, inv_shift_rows, mix_columns, inv_mix_columns, add_round_key}
+use Rattle.std.proofs.Common.{◌≡◌, ℕ, zero, suc, ◌+◌, ◌-◌, ◌≤◌, List, refl, sym, ap, ◌∙◌, add-one, arith}
+use Rattle.aes_cbc.specs.Block.{sum_of_bytes, sub_bytes, inv_sub_bytes, shift_rows, inv_shift_rows, mix_columns, inv_mix_columns}
 use Rattle.aes_cbc.specs.Expansion.{key_expansion}
 use Rattle.aes_cbc.specs.Cipher.{round_key, after_rounds, cipher, after_inv_rounds, inv_cipher}
 use Rattle.aes_cbc.specs.Laws.{IsBlock, InverseCipherUndoesCipher, CipherUndoesInverseCipher}

@@ -1,8 +1,8 @@
 -- The expansion of a key is 44 words of four bytes, and each round key is a block.
-use Rattle.std.proofs.Common.{◌≡◌, ℕ, zero, suc, ◌+◌, ◌-◌, ◌*◌, ◌/◌, ◌%◌, ◌<◌, ◌≤◌, ◌==◌, nat_lt, Bool, cond, List, [], ◌∷◌, ◌++◌, map, length, get_or, take, drop, inl, inr, refl, sym, ap, ◌∙◌, arith, All}
+use Rattle.std.proofs.Common.{◌≡◌, ℕ, zero, suc, ◌+◌, ◌-◌, ◌*◌, ◌/◌, ◌%◌, ◌<◌, ◌≤◌, ◌==◌, nat_lt, List, [], ◌∷◌, length, get_or, take, drop, refl, sym, ◌∙◌, arith, All}
 use Rattle.std.proofs.lemmas.List.{length-map, length-take, length-drop, length-append, length_push}
-use Rattle.std.proofs.lemmas.List.Elements.{All-cons, All-nil, All-head, All-tail, All-take, All-drop, All-append, All-push, All-get_or, All-replicate}
-use Rattle.std.proofs.lemmas.Bool.{cases_lt, cond_both, ltb-true, ltb-false}
+use Rattle.std.proofs.lemmas.List.Elements.{All-cons, All-nil, All-take, All-drop, All-append, All-push, All-replicate}
+use Rattle.std.proofs.lemmas.Bool.{cond_both, ltb-true, ltb-false}
 use Rattle.aes_cbc.specs.Field.{power_of_x, ◌•◌, polynomial_product, remainder}
 use Rattle.aes_cbc.specs.Substitution.{sub_byte}
 use Rattle.aes_cbc.specs.Block.{sum_of_bytes}

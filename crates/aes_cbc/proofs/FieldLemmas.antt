@@ -1,10 +1,10 @@
 -- The field's product spreads over sums, and what holds of each of the 256 bytes is computed.
-use Rattle.std.proofs.Common.{◌≡◌, ℕ, zero, suc, ◌+◌, ◌*◌, ◌/◌, ◌%◌, ◌^◌, ◌<◌, Bool, true, ◌⊎◌, inl, inr, refl, sym, ap, ◌∙◌, arith, nat_lt, ◌==◌, add-zero, zero-mul, one-mul}
+use Rattle.std.proofs.Common.{◌≡◌, ℕ, zero, suc, ◌+◌, ◌*◌, ◌%◌, ◌^◌, ◌<◌, Bool, true, ◌⊎◌, inl, inr, refl, sym, ap, ◌∙◌, arith, nat_lt, ◌==◌, add-zero, zero-mul, one-mul}
 use Rattle.std.specs.Int.{bit_at}
 use Rattle.std.proofs.lemmas.Nat.{xor_comm, xor_block, pow_pos}
 use Rattle.std.proofs.lemmas.Nat.Bits.{bit_at_xor, bit_at-lt}
 use Rattle.std.proofs.lemmas.Bool.{agree_below, agree_below_at, eqb-true, ltb-true}
-use lib.Bits.{xor_assoc, xor_self, xor_zero_l, xor_zero_r}
+use lib.Bits.{xor_assoc, xor_self, xor_zero_r}
 use Rattle.aes_cbc.specs.Field.{◌⊕◌, ◌•◌, MODULUS, polynomial_product, remainder}
 
 -- ---- sums

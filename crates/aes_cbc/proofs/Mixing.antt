@@ -1,10 +1,10 @@
 -- InvMixColumns undoes MixColumns, and the other way round: two products of a column with four coefficients
 -- are one product, whose coefficients are computed at each byte.
-use Rattle.std.proofs.Common.{◌≡◌, ℕ, ◌+◌, ◌*◌, ◌%◌, ◌<◌, List, get_or, refl, sym, ap, ap₂, ◌∙◌, arith}
+use Rattle.std.proofs.Common.{◌≡◌, ℕ, ◌+◌, ◌%◌, ◌<◌, List, refl, sym, ap, ap₂, ◌∙◌, arith}
 use Rattle.std.proofs.lemmas.Nat.{xor_of_8}
 use lib.Bits.{xor_zero_r}
 use Rattle.aes_cbc.specs.Field.{◌⊕◌, ◌•◌, polynomial_product, remainder}
-use Rattle.aes_cbc.specs.Block.{byte_at, block_of, mixed, mix_columns, inv_mix_columns}
+use Rattle.aes_cbc.specs.Block.{byte_at, mixed, mix_columns, inv_mix_columns}
 use Rattle.aes_cbc.specs.Laws.{IsBlock}
 use Rattle.aes_cbc.proofs.FieldLemmas.{sum_comm, sum_assoc, sum_exchange, product-sum, agree_at_bytes, byte_at_bytes}
 use Rattle.aes_cbc.proofs.BlockLemmas.{byte_at-block_of, byte_at-lt, same_block, IsBlock-block_of}

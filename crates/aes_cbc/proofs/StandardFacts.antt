@@ -1,8 +1,8 @@
 -- Examples of the standards, so that a wrong definition does not check.
-use Rattle.std.proofs.Common.{◌≡◌, ℕ, ◌<◌, List, [], ◌∷◌, drop, refl}
+use Rattle.std.proofs.Common.{◌≡◌, ℕ, ◌<◌, [], ◌∷◌, drop, refl}
 use Rattle.aes_cbc.specs.Field.{◌•◌, polynomial_product, remainder, inverse, power_of_x}
 use Rattle.aes_cbc.specs.Substitution.{sub_byte, affine, inv_affine, number_of_bits, inv_sub_byte}
-use Rattle.aes_cbc.specs.Block.{block_of, sum_of_bytes, sub_bytes, inv_sub_bytes, shift_rows, inv_shift_rows, mixed, mix_columns}
+use Rattle.aes_cbc.specs.Block.{block_of, sum_of_bytes, sub_bytes, inv_sub_bytes, shift_rows, inv_shift_rows, mixed}
 use Rattle.aes_cbc.specs.Expansion.{round_addend, next_word, first_words, key_expansion}
 use Rattle.aes_cbc.specs.Cipher.{round_key, after_rounds, cipher, after_inv_rounds, inv_cipher}
 use Rattle.aes_cbc.proofs.FieldLemmas.{agree_at_bytes}

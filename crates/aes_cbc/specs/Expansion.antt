@@ -1,6 +1,6 @@
 -- The expansion of a key of 16 bytes into the 44 words of its round keys (FIPS 197, section 5.2). A word is
 -- four bytes.
-use Rattle.std.specs.Prelude.{ℕ, zero, suc, ◌+◌, ◌-◌, ◌*◌, ◌/◌, ◌%◌, ◌==◌, nat_lt, List, [], ◌∷◌, ◌++◌, map, take, drop, slice_index_or, if◌then◌else◌}
+use Rattle.std.specs.Prelude.{ℕ, zero, suc, ◌-◌, ◌*◌, ◌/◌, ◌%◌, ◌==◌, nat_lt, List, [], ◌∷◌, ◌++◌, map, take, drop, slice_index_or, if◌then◌else◌}
 use Rattle.aes_cbc.specs.Field.{power_of_x}
 use Rattle.aes_cbc.specs.Substitution.{sub_byte}
 use Rattle.aes_cbc.specs.Block.{sum_of_bytes}

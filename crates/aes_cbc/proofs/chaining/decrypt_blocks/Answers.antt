@@ -1,4 +1,4 @@
-use Rattle.std.proofs.Common.{arith, ◌++◌, ap, ◌∙◌}
+use Rattle.std.proofs.Common.{◌++◌, ap}
 use Rattle.std.specs.List.{concat}
 use Rattle.aes_cbc.specs.Chaining.{decrypted_blocks}
 use Rattle.aes_cbc.proofs.ChainSteps.{decrypted_more, decrypted_all}

@@ -1,4 +1,4 @@
-use Rattle.std.proofs.Common.{◌≡◌, ◌∙◌, sym, ap, arith}
+use Rattle.std.proofs.Common.{◌∙◌, sym, ap, arith}
 use Rattle.aes_cbc.specs.Block.{sum_of_bytes}
 use Rattle.aes_cbc.proofs.WordLemmas.{next_word_from_key, next_word_of_words}
 use Rattle.aes_cbc.proofs.schedule.next_word.Goals as goal

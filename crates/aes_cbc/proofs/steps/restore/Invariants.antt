@@ -1,4 +1,4 @@
-use Rattle.std.proofs.Common.{◌≡◌, ℕ, ◌+◌, ◌-◌, ◌*◌, ◌/◌, ◌%◌, ◌<◌, length, get_or}
+use Rattle.std.proofs.Common.{◌≡◌, ℕ, ◌+◌, ◌-◌, ◌/◌, ◌%◌, ◌<◌, length, get_or}
 use Rattle.aes_cbc.specs.Substitution.{inv_sub_byte}
 use Rattle.aes_cbc.specs.Block.{byte_at}
 use Rattle.aes_cbc.proofs.steps.restore.Given as goal
