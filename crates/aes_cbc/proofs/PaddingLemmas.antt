@@ -117,9 +117,10 @@ last_of_padding block size h =
     ∙ get_or-replicate size (size - 1) size 0 (omega (arith, h.is_some))
 
 -- a last byte that is no size of a padding
-pub no_size : (block : List ℕ) → (get_or block 15 0 ≡ 0) ⊎ (16 < get_or block 15 0) → (size : ℕ) → EndsInPadding block size → ⊥
-no_size block (inl none) size h = absurd (omega (arith, last_of_padding block size h, h.is_some))
-no_size block (inr big) size h = absurd (omega (arith, last_of_padding block size h, h.is_at_most_a_block))
+pub no_size : (block : List ℕ) → (1 ≤ get_or block 15 0 → get_or block 15 0 ≤ 16 → ⊥) → (size : ℕ) → EndsInPadding block size → ⊥
+no_size block bad size h =
+    let last : get_or block 15 0 ≡ size = last_of_padding block size h in
+    bad (omega (arith, h.is_some)) (omega (arith, h.is_at_most_a_block))
 
 -- the last bytes are not all of that value; they are read from their place on, as many as are left
 pub no_tail : (block : List ℕ) → length block ≡ 16

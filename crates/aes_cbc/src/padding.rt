@@ -18,7 +18,7 @@ pub(crate) fn padding_of(block: &[u8; 16]) -> Option<usize>
 {
     let last = block[15];
     let size = last as usize;
-    if size == 0 || size > 16 {
+    if !is_padding_size(size) {
         return None;
     }
     if are_all(&block[16 - size..], last) {
@@ -26,6 +26,13 @@ pub(crate) fn padding_of(block: &[u8; 16]) -> Option<usize>
     } else {
         None
     }
+}
+
+// Tells whether a padding has so many bytes.
+fn is_padding_size(size: usize) -> bool
+    ensures { IsTrue result ↔ ((1 ≤ size) × (size ≤ 16)) }
+{
+    1 <= size && size <= 16
 }
 
 // Tells whether each of these bytes is that one.
