@@ -19,7 +19,8 @@ AreWholeBlocks bytes = (0 < length bytes) × (length bytes % 16 ≡ 0)
 unfoldable pub encrypted_blocks : List (List ℕ) → List ℕ → List (List ℕ) → List (List ℕ)
 encrypted_blocks words before [] = []
 encrypted_blocks words before (block ∷ blocks) =
-    let chained = cipher words (sum_of_bytes block before) in chained ∷ encrypted_blocks words chained blocks
+    let chained = cipher words (sum_of_bytes block before) in
+    chained ∷ encrypted_blocks words chained blocks
 
 -- blocks decrypted in a chain: each one is summed with the block before it as it was, and the first one with
 -- the initialization vector (SP 800-38A, 6.2)

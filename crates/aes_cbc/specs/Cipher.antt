@@ -12,7 +12,8 @@ round_key words n = block_of (λ row column. slice_index (word_at words (4 * n +
 unfoldable pub after_rounds : List (List ℕ) → List ℕ → ℕ → List ℕ
 after_rounds words block zero = add_round_key block (round_key words 0)
 after_rounds words block (suc n) =
-    add_round_key (mix_columns (shift_rows (sub_bytes (after_rounds words block n)))) (round_key words (n + 1))
+    let substituted = shift_rows (sub_bytes (after_rounds words block n)) in
+    add_round_key (mix_columns substituted) (round_key words (n + 1))
 
 -- Cipher: nine rounds, and a last one that does not mix columns (5.1)
 unfoldable pub cipher : List (List ℕ) → List ℕ → List ℕ
@@ -22,7 +23,8 @@ cipher words block = add_round_key (shift_rows (sub_bytes (after_rounds words bl
 unfoldable pub after_inv_rounds : List (List ℕ) → List ℕ → ℕ → List ℕ
 after_inv_rounds words block zero = add_round_key block (round_key words 10)
 after_inv_rounds words block (suc n) =
-    inv_mix_columns (add_round_key (inv_sub_bytes (inv_shift_rows (after_inv_rounds words block n))) (round_key words (9 - n)))
+    let restored = inv_sub_bytes (inv_shift_rows (after_inv_rounds words block n)) in
+    inv_mix_columns (add_round_key restored (round_key words (9 - n)))
 
 -- InvCipher: nine rounds, and a last one that does not mix columns (5.3)
 unfoldable pub inv_cipher : List (List ℕ) → List ℕ → List ℕ

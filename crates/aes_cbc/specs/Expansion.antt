@@ -24,7 +24,8 @@ word_at words i = slice_index_or words i []
 -- what is added to the word four places back: the word before, and in each fourth place that word rotated,
 -- substituted and summed with the round constant
 unfoldable pub round_addend : List ℕ → ℕ → List ℕ
-round_addend before i = if i % 4 == 0 then sum_of_bytes (sub_word (rot_word before)) (rcon (i / 4)) else before
+round_addend before i =
+    if i % 4 == 0 then sum_of_bytes (sub_word (rot_word before)) (rcon (i / 4)) else before
 
 -- word i, from the words before it
 unfoldable pub next_word : List ℕ → List (List ℕ) → ℕ → List ℕ

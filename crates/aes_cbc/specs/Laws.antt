@@ -16,14 +16,16 @@ pub record IsBlock (xs : List ℕ) : Type 0 where
 -- a block under the cipher and then under its inverse is the block again
 abbrev pub InverseCipherUndoesCipher : Type 0
 InverseCipherUndoesCipher =
-    (key block : List ℕ) → IsBlock key → IsBlock block → inv_cipher (key_expansion key) (cipher (key_expansion key) block) ≡ block
+    (key block : List ℕ) → IsBlock key → IsBlock block
+    → let words = key_expansion key in inv_cipher words (cipher words block) ≡ block
 
 -- a block under the inverse cipher and then under the cipher is the block again
 abbrev pub CipherUndoesInverseCipher : Type 0
 CipherUndoesInverseCipher =
-    (key block : List ℕ) → IsBlock key → IsBlock block → cipher (key_expansion key) (inv_cipher (key_expansion key) block) ≡ block
+    (key block : List ℕ) → IsBlock key → IsBlock block
+    → let words = key_expansion key in cipher words (inv_cipher words block) ≡ block
 
--- a text that is encrypted is whole blocks, which are decrypted to that text and to no other
+-- a text is encrypted to whole blocks, which are decrypted to that text and to no other
 pub record DecryptsTo (words : List (List ℕ)) (iv text : List ℕ) : Type 0 where
   pub are_whole : AreWholeBlocks (cbc_encrypted words iv text)
   pub is_text : IsCbcText words iv (cbc_encrypted words iv text) text
@@ -32,4 +34,5 @@ pub record DecryptsTo (words : List (List ℕ)) (iv text : List ℕ) : Type 0 wh
 -- a text that is encrypted and then decrypted, under one key and initialization vector, is the text again
 abbrev pub DecryptionUndoesEncryption : Type 0
 DecryptionUndoesEncryption =
-    (key iv text : List ℕ) → IsBlock key → IsBlock iv → AreBytes text → DecryptsTo (key_expansion key) iv text
+    (key iv text : List ℕ) → IsBlock key → IsBlock iv → AreBytes text
+    → DecryptsTo (key_expansion key) iv text

@@ -14,7 +14,8 @@ pub(crate) fn padded_block(rest: &[u8]) -> [u8; 16]
 
 // The number of bytes that pad the text in its last block.
 pub(crate) fn padding_of(block: &[u8; 16]) -> Option<usize>
-    ensures { MatchOption result ((size : ℕ) → EndsInPadding block.now size → ⊥) (EndsInPadding block.now) }
+    ensures { MatchOption result ((size : ℕ) → EndsInPadding block.now size → ⊥)
+        (EndsInPadding block.now) }
 {
     let last = block[15];
     let size = last as usize;
