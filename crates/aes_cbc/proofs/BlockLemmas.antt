@@ -13,7 +13,7 @@ use Rattle.aes_cbc.proofs.ByteFacts.{sub_byte-lt, inv_sub_byte-lt, inv_sub_byte-
 
 -- ---- by row and column
 
-pub length-block_of : (f : ℕ → ℕ → ℕ) → length (block_of f) ≡ 16
+length-block_of : (f : ℕ → ℕ → ℕ) → length (block_of f) ≡ 16
 unfolding block_of
 length-block_of f = length-map-range_with_len (λ i. f (i % 4) (i / 4)) 0 16
 
@@ -62,7 +62,7 @@ length-sum_of_bytes (x ∷ xs) [] h = absurd (omega arith)
 length-sum_of_bytes (x ∷ xs) (y ∷ ys) h = ap (λ n. suc n) (length-sum_of_bytes xs ys (omega arith))
 
 -- what is added twice is gone
-pub sum_of_bytes-twice : (xs ys : List ℕ) → length xs ≡ length ys → sum_of_bytes (sum_of_bytes xs ys) ys ≡ xs
+sum_of_bytes-twice : (xs ys : List ℕ) → length xs ≡ length ys → sum_of_bytes (sum_of_bytes xs ys) ys ≡ xs
 unfolding sum_of_bytes
 sum_of_bytes-twice [] ys h = refl
 sum_of_bytes-twice (x ∷ xs) [] h = absurd (omega arith)

@@ -47,10 +47,14 @@ module _ (words : List (List ℕ)) where
 
   -- ---- decryption
 
+  -- what is ahead makes the whole
+  abbrev pub DecryptedAhead : List ℕ → List (List ℕ) → List ℕ → List ℕ → ℕ → Type 0
+  DecryptedAhead iv blocks out before i =
+      out ++ concat (decrypted_blocks words before (drop i blocks)) ≡ concat (decrypted_blocks words iv blocks)
+
   pub decrypted_more : (iv : List ℕ) (blocks : List (List ℕ)) (out before : List ℕ) (i : ℕ) (plain sum grown : List ℕ) → i < length blocks
-      → out ++ concat (decrypted_blocks words before (drop i blocks)) ≡ concat (decrypted_blocks words iv blocks)
-      → plain ≡ inv_cipher words (get_or blocks i []) → sum ≡ sum_of_bytes plain before → grown ≡ out ++ sum
-      → grown ++ concat (decrypted_blocks words (get_or blocks i []) (drop (i + 1) blocks)) ≡ concat (decrypted_blocks words iv blocks)
+      → DecryptedAhead iv blocks out before i → plain ≡ inv_cipher words (get_or blocks i []) → sum ≡ sum_of_bytes plain before → grown ≡ out ++ sum
+      → DecryptedAhead iv blocks grown (get_or blocks i []) (i + 1)
   unfolding decrypted_blocks
   decrypted_more iv blocks out before i plain sum grown small ahead is_plain is_sum is_grown =
       let block : List ℕ = get_or blocks i [] in
@@ -62,7 +66,7 @@ module _ (words : List (List ℕ)) where
       ∙ ahead
 
   pub decrypted_all : (iv : List ℕ) (blocks : List (List ℕ)) (out before : List ℕ) (i : ℕ) (end grown : List ℕ) → length blocks ≤ i
-      → out ++ concat (decrypted_blocks words before (drop i blocks)) ≡ concat (decrypted_blocks words iv blocks) → grown ≡ out ++ end
+      → DecryptedAhead iv blocks out before i → grown ≡ out ++ end
       → grown ≡ concat (decrypted_blocks words iv blocks) ++ end
   unfolding decrypted_blocks
   decrypted_all iv blocks out before i end grown all ahead is_grown =

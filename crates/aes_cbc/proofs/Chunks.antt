@@ -23,12 +23,12 @@ chunks-append (suc k) xs ys h =
     (ap (first_chunks 16 k) (drop-append-le 16 xs ys (omega arith)) ∙ chunks-append k (drop 16 xs) ys (omega (arith, length-drop 16 xs)))
 
 -- the chunks of whole blocks make the text
-pub concat-chunks : (k : ℕ) (xs : List ℕ) → length xs ≡ k * 16 → concat (first_chunks 16 k xs) ≡ xs
+concat-chunks : (k : ℕ) (xs : List ℕ) → length xs ≡ k * 16 → concat (first_chunks 16 k xs) ≡ xs
 concat-chunks zero [] h = refl
 concat-chunks zero (x ∷ xs) h = absurd (omega arith)
 concat-chunks (suc k) xs h = ap (λ t. take 16 xs ++ t) (concat-chunks k (drop 16 xs) (omega (arith, length-drop 16 xs))) ∙ take-append-drop 16 xs
 
-pub are_blocks-chunks : (k : ℕ) (xs : List ℕ) → AreBytes xs → k * 16 ≤ length xs → All IsBlock (first_chunks 16 k xs)
+are_blocks-chunks : (k : ℕ) (xs : List ℕ) → AreBytes xs → k * 16 ≤ length xs → All IsBlock (first_chunks 16 k xs)
 are_blocks-chunks zero xs h l = All-nil IsBlock
 are_blocks-chunks (suc k) xs h l =
     let P : ℕ → Type 0 = λ b. b < 256 in

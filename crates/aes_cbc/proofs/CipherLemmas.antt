@@ -104,10 +104,6 @@ module _ (words : List (List ℕ)) (keys : AreRoundKeys words) where
         IsBlock-inv_mix_columns (sum_of_bytes (restored (before n)) (round_key words (9 - n)))
         (IsBlock-keyed (restored (before n)) (9 - n) (IsBlock-restored (before n) (IsBlock-before n (omega arith))) (omega arith))
 
-    pub IsBlock-inv_cipher : IsBlock (inv_cipher words block)
-    unfolding inv_cipher before restored
-    IsBlock-inv_cipher = IsBlock-keyed (restored (before 9)) 0 (IsBlock-restored (before 9) (IsBlock-before 9 (omega arith))) (omega arith)
-
     -- n rounds take n inverse rounds back
     rounds_forth : (n m : ℕ) → n + m ≡ 9 → after_rounds words (inv_cipher words block) n ≡ restored (before m)
     unfolding after_rounds after_inv_rounds inv_cipher before substituted restored

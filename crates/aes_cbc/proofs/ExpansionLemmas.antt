@@ -76,7 +76,7 @@ IsWord-next_word key words i block h l =
     IsWord-sum (word_at words (i - 4)) (round_addend (word_at words (i - 1)) i) (h (i - 4) [] (omega arith))
     (IsWord-round_addend (word_at words (i - 1)) i (h (i - 1) [] (omega arith))))
 
-pub length-first_words : (key : List ℕ) (n : ℕ) → length (first_words key n) ≡ n
+length-first_words : (key : List ℕ) (n : ℕ) → length (first_words key n) ≡ n
 unfolding first_words
 length-first_words key zero = refl
 length-first_words key (suc n) = omega (arith, length_push (first_words key n) (next_word key (first_words key n) n), length-first_words key n)

@@ -82,7 +82,7 @@ product-sum a x y = ap (remainder 7) (polynomial_product-sum 8 a x y) ∙ remain
 -- ---- what holds of each byte
 
 -- a test that each byte passes, as computed
-pub each_byte : (test : ℕ → Bool) → agree_below test (λ _. true) 256 ≡ true → (b : ℕ) → b < 256 → test b ≡ true
+each_byte : (test : ℕ → Bool) → agree_below test (λ _. true) 256 ≡ true → (b : ℕ) → b < 256 → test b ≡ true
 each_byte test h b small = agree_below_at test (λ _. true) 256 b h small
 
 -- two functions that agree at each byte, as computed

@@ -1,5 +1,5 @@
 -- A text and its padding.
-use Rattle.std.proofs.Common.{◌≡◌, ◌⊎◌, ℕ, ◌+◌, ◌-◌, ◌*◌, ◌/◌, ◌<◌, ◌≤◌, List, [], ◌∷◌, ◌++◌, length, take, drop, replicate, get_or, inl, inr, refl, sym, ap, ap₂, ◌∙◌, arith}
+use Rattle.std.proofs.Common.{◌≡◌, ℕ, ◌+◌, ◌-◌, ◌*◌, ◌/◌, ◌<◌, ◌≤◌, List, [], ◌∷◌, ◌++◌, length, take, drop, replicate, get_or, refl, sym, ap, ap₂, ◌∙◌, arith}
 use Rattle.std.specs.Simd.{first_chunks}
 use Rattle.std.proofs.lemmas.List.{length-append, length-drop, length-replicate, take-append-drop, append_assoc, append_cancel_right, get_or-append-add, get_or-replicate, drop-append-le, take_all, drop_at, get_or-drop, drop-replicate}
 use Rattle.std.proofs.lemmas.List.Elements.{All-append, All-replicate}
@@ -8,7 +8,7 @@ use Rattle.aes_cbc.specs.Chaining.{AreWholeBlocks, blocks_of}
 use Rattle.aes_cbc.specs.Laws.{AreBytes}
 use Rattle.aes_cbc.proofs.Chunks.{chunks_more, chunks-append}
 
-pub length-padded : (text : List ℕ) → length (padded text) ≡ length text + padding_size (length text)
+length-padded : (text : List ℕ) → length (padded text) ≡ length text + padding_size (length text)
 unfolding padded
 length-padded text =
     let p : ℕ = padding_size (length text) in
@@ -110,7 +110,7 @@ blocks_of-padded text =
 -- ---- the code's tests
 
 -- the last byte of a block that ends in a padding is its size
-pub last_of_padding : (block : List ℕ) (size : ℕ) → EndsInPadding block size → get_or block 15 0 ≡ size
+last_of_padding : (block : List ℕ) (size : ℕ) → EndsInPadding block size → get_or block 15 0 ≡ size
 last_of_padding block size h =
     let place : 16 - size + (size - 1) ≡ 15 = omega (arith, h.is_some, h.is_at_most_a_block) in
     ap (λ k. get_or block k 0) (sym place) ∙ sym (get_or-drop (16 - size) block (size - 1) 0) ∙ ap (λ t. get_or t (size - 1) 0) h.is_tail
