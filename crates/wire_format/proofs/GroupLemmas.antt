@@ -113,7 +113,7 @@ within_end group End number old [] content piece none nests token within =
     }
 
 -- what stands before a place in a group: its start, and its content so far
-up_to : (bytes : List ℕ) (start at : ℕ) → start ≤ at → at ≤ length bytes →
+pub up_to : (bytes : List ℕ) (start at : ℕ) → start ≤ at → at ≤ length bytes →
     take at bytes ≡ take start bytes ++ drop start (take at bytes)
 up_to bytes start at starts inside =
     sym (take-append-drop start (take at bytes)) ∙ ap (λ front. front ++ drop start (take at bytes)) (take-take start at bytes starts)

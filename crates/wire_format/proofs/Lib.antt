@@ -8,6 +8,7 @@ pub mod OneReading
 pub mod TokenWalks
 pub mod Leading
 pub mod NoFault
+pub mod FieldLemmas
 pub mod LeastGroups
 pub mod WrittenFields
 pub mod WalkLemmas
@@ -16,3 +17,4 @@ pub mod OneFault
 pub mod OneField
 pub mod ListsOfFields
 pub mod Joining
+pub mod FirstField

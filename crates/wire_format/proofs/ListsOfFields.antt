@@ -13,7 +13,7 @@ header_some : (header : List ℕ) (number kind : ℕ) → IsHeader header number
 header_some header number kind is =
     omega (arith, ap length is.is_varint.is_whole, length-append is.is_varint.front (is.is_varint.last ∷ []))
 
-field_some : (bytes : List ℕ) (number : ℕ) (payload : Payload) → IsField bytes number payload → 0 < length bytes
+pub field_some : (bytes : List ℕ) (number : ℕ) (payload : Payload) → IsField bytes number payload → 0 < length bytes
 field_some bytes number payload field =
     let parts = split bytes number payload field in
     omega (
@@ -42,7 +42,7 @@ one_list (field ∷ fields) (other ∷ others) at bytes these those =
       one_list fields others (at + these.size) (drop these.size bytes) these.is_followed behind,
     )
 
-some_field : (bytes : List ℕ) (number : ℕ) (payload : Payload) → IsField bytes number payload → IsSomeField (MayFill 32) bytes
+pub some_field : (bytes : List ℕ) (number : ℕ) (payload : Payload) → IsField bytes number payload → IsSomeField (MayFill 32) bytes
 some_field bytes number (Varint value) field = inl (record { number = number; payload = Varint value; is_plain = field })
 some_field bytes number (Eight value) field = inl (record { number = number; payload = Eight value; is_plain = field })
 some_field bytes number (Bytes content) field = inl (record { number = number; payload = Bytes content; is_plain = field })

@@ -49,7 +49,7 @@ split bytes number (Group content) field = record {
 }
 
 -- the end of a group is no token that may stand where no group is open
-stuck_at_an_end : (end after : List ℕ) (number : ℕ) → IsHeader end number 4 → IsStuck [] (end ++ after)
+pub stuck_at_an_end : (end after : List ℕ) (number : ℕ) → IsHeader end number 4 → IsStuck [] (end ++ after)
 stuck_at_an_end end after number header =
     λ (token : Step) (behind : List ℕ) (piece : IsStep token) (same : token.bytes ++ behind ≡ end ++ after).
     let joined : piece.header ++ (piece.body ++ behind) ≡ end ++ after

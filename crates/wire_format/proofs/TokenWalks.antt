@@ -59,13 +59,13 @@ none_some x same = let no : false ≡ true = ap (λ found. elim found as (λ o. 
 pub some_same : (a b : List ℕ) → Some a ≡ Some b → a ≡ b
 some_same a b same = ap (λ found. elim found as (λ o. List ℕ) [ None ↦ [] | Some y ↦ y ]) same
 
-walk_step : (o : Option (List ℕ)) (tokens : List Step) (new : List ℕ) → then_walk o (λ after. walk tokens after) ≡ Some new →
+pub walk_step : (o : Option (List ℕ)) (tokens : List Step) (new : List ℕ) → then_walk o (λ after. walk tokens after) ≡ Some new →
     (mid : List ℕ) × ((o ≡ Some mid) × (walk tokens mid ≡ Some new))
 unfolding then_walk
 walk_step None tokens new leads = absurd (none_some new leads)
 walk_step (Some mid) tokens new leads = (mid, (refl, leads))
 
-token_same : (t u : Step) → t.bytes ≡ u.bytes → t.number ≡ u.number → t.kind ≡ u.kind → t ≡ u
+pub token_same : (t u : Step) → t.bytes ≡ u.bytes → t.number ≡ u.number → t.kind ≡ u.kind → t ≡ u
 token_same t u b n k =
     ap (λ bytes. record { bytes = bytes; number = t.number; kind = t.kind }) b
     ∙ ap (λ number. record { bytes = u.bytes; number = number; kind = t.kind }) n

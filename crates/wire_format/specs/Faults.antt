@@ -1,9 +1,10 @@
 -- Where bytes are no list of fields, and why.
 use Rattle.std.specs.Prelude.{◌≡◌, ◌≢◌, ◌⊎◌, ℕ, zero, suc, ◌+◌, ◌*◌, ◌<◌, ◌≤◌, List, [], ◌∷◌, ◌++◌, length}
+use Rattle.wire_format.specs.declared.field.Payload.{Payload}
 use Rattle.wire_format.specs.declared.fault.WireReason.{WireReason}
 use Rattle.wire_format.specs.declared.fault.WireReason.TheVariants.{Cut, LongVarint, BadKind, ZeroNumber, BigNumber, OpenGroup, StrayEnd, TooDeep}
 use Rattle.wire_format.specs.Varints.{IsVarint, IsCutVarint, IsLongVarint}
-use Rattle.wire_format.specs.Fields.{LAST_NUMBER, MAX_NESTING, IsHeader, AreFieldsOf, MayFill}
+use Rattle.wire_format.specs.Fields.{LAST_NUMBER, MAX_NESTING, IsHeader, IsFieldAt, AreFieldsOf, MayFill}
 
 -- whole fields, the start of a group, and what stands in it so far
 pub record OpensOf (MayFill : List ℕ → Type 0) (IsInside : List ℕ → Type 0) (number : ℕ) (bytes : List ℕ) : Type 0 where
@@ -99,3 +100,11 @@ pub record IsFault (bytes : List ℕ) (reason : WireReason) (place : ℕ) : Type
   pub are_open : AreOpen MAX_NESTING numbers before
   pub is_fault : IsFaultWithin numbers rest reason offset
   pub is_place : place ≡ length before + offset
+
+-- no field stands at the front of these bytes
+abbrev pub HasNoField : List ℕ → Type 0
+HasNoField bytes = (size number : ℕ) → (payload : Payload) → IsFieldAt bytes size number payload → ⊥
+
+-- the first field of these bytes is at fault
+abbrev pub IsFirstFault : List ℕ → WireReason → ℕ → Type 0
+IsFirstFault bytes reason place = IsFault bytes reason place × HasNoField bytes

@@ -3,7 +3,7 @@ use Rattle.std.specs.Prelude.{◌≡◌, ℕ, ◌+◌, ◌≤◌, List, [], leng
 use Rattle.wire_format.specs.declared.field.Field.{Field}
 use Rattle.wire_format.specs.declared.fault.WireFault.{WireFault}
 use Rattle.wire_format.specs.Fields.{IsField}
-use Rattle.wire_format.specs.Faults.{IsFault}
+use Rattle.wire_format.specs.Faults.{IsFault, HasNoField}
 
 -- all bytes, how many of them have been read, and the fault that was told
 pub record Reading : Type 0 where
@@ -23,10 +23,11 @@ pub record IsRead (old : Reading) (field : Field) (new : Reading) : Type 0 where
   pub is_place : field.at ≡ old.at
   pub goes_on : new ≡ record old { at = old.at + size }
 
--- what is left is at fault, which is kept
+-- what is left is at fault in its first field; the fault is kept
 pub record IsFaulty (old : Reading) (fault : WireFault) (new : Reading) : Type 0 where
   pub place : ℕ
   pub is_fault : IsFault (left old) fault.reason place
+  pub is_first : HasNoField (left old)
   pub is_place : fault.at ≡ old.at + place
   pub is_kept : new ≡ record old { fault = Some fault }
 

@@ -1,7 +1,7 @@
 //! Reading a group to its end, without recursion.
 ghost use Rattle.std.specs.Prelude.{◌≡◌, ◌≤◌, length, take, drop, MatchResult};
 ghost use Rattle.wire_format.specs.Fields.{IsHeader};
-ghost use Rattle.wire_format.specs.Faults.{IsFault};
+ghost use Rattle.wire_format.specs.Faults.{IsFirstFault};
 ghost use Rattle.wire_format.specs.Groups.{IsGroupEnd};
 
 use crate::fault::WireReason;
@@ -21,7 +21,7 @@ pub(crate) fn group_end(bytes: &[u8], group: u32, start: usize) -> Result<GroupE
     requires is_start { IsHeader (take start bytes.now) group 3 }
     ensures { MatchResult result
         (λ end. IsGroupEnd bytes.now group start end.content end.len)
-        (λ fault. IsFault bytes.now fault.reason fault.place) }
+        (λ fault. IsFirstFault bytes.now fault.reason fault.place) }
 {
     let mut groups = OpenGroups::new();
     groups.push(group);

@@ -3,7 +3,7 @@ ghost use Rattle.std.specs.Prelude.{◌≡◌, ◌≢◌, ◌<◌, ◌≤◌, []
 ghost use Rattle.wire_format.specs.declared.fault.WireFault.{WireFault as Fault};
 ghost use Rattle.wire_format.specs.Fields.{IsHeader, IsFieldAt};
 ghost use Rattle.wire_format.specs.Tokens.{IsTokenAt};
-ghost use Rattle.wire_format.specs.Faults.{IsFault};
+ghost use Rattle.wire_format.specs.Faults.{IsFirstFault};
 ghost use Rattle.wire_format.specs.Readers.{Reading, IsNext};
 
 use crate::fault::{WireFault, WireReason};
@@ -53,6 +53,13 @@ impl<'a> FieldReader<'a> {
         }
     }
 
+    /// How many bytes have been read: where the next field begins.
+    pub fn place(&self) -> usize
+        ensures { result ≡ self.now.at }
+    {
+        self.at
+    }
+
     /// The next whole field, or `None` at the end.
     ///
     /// It takes constant time for a field that is no group, and for a group time linear in the number of its fields
@@ -96,7 +103,7 @@ fn read_one<'a>(bytes: &'a [u8]) -> Result<Found<'a>, TokenFault>
     requires { 0 < length bytes.now }
     ensures { MatchResult result
         (λ found. IsFieldAt bytes.now found.len found.number found.payload)
-        (λ fault. IsFault bytes.now fault.reason fault.place) }
+        (λ fault. IsFirstFault bytes.now fault.reason fault.place) }
 {
     let token = first_token(bytes)?;
     match token.body {
@@ -118,7 +125,7 @@ fn first_token<'a>(bytes: &'a [u8]) -> Result<Token<'a>, TokenFault>
     requires { 0 < length bytes.now }
     ensures { MatchResult result
         (λ token. IsTokenAt bytes.now token.len token.number token.body)
-        (λ fault. IsFault bytes.now fault.reason fault.place) }
+        (λ fault. IsFirstFault bytes.now fault.reason fault.place) }
 {
     match Token::read(bytes) {
         Ok(token) => Ok(token),
@@ -132,7 +139,7 @@ fn read_group<'a>(bytes: &'a [u8], number: u32, start: usize) -> Result<Found<'a
     requires is_start { IsHeader (take start bytes.now) number 3 }
     ensures { MatchResult result
         (λ found. IsFieldAt bytes.now found.len found.number found.payload)
-        (λ fault. IsFault bytes.now fault.reason fault.place) }
+        (λ fault. IsFirstFault bytes.now fault.reason fault.place) }
 {
     let end = group_end(bytes, number, start)?;
     Ok(Found {

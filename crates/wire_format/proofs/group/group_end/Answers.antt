@@ -1,10 +1,11 @@
-use Rattle.std.proofs.Common.{◌≡◌, ◌+◌, [], length, take, drop, refl, sym, subst, arith}
+use Rattle.std.proofs.Common.{◌≡◌, [], length, take, drop, refl, sym, subst, arith}
 use Rattle.std.proofs.lemmas.List.{length-drop, nil_from_length}
 use Rattle.wire_format.specs.declared.fault.WireReason.TheVariants.{OpenGroup, StrayEnd, TooDeep}
-use Rattle.wire_format.specs.Faults.{IsTokenFault, IsFault}
+use Rattle.wire_format.specs.Faults.{IsTokenFault}
 use Rattle.wire_format.specs.Tokens.{IsToken}
 use Rattle.wire_format.proofs.TokenLemmas.{from_place}
-use Rattle.wire_format.proofs.GroupLemmas.{IsWithin, is_some, is_none, within_some, within_more, within_end, content_more, group_whole, all_open, fault_at, token_fault, stray_here, deep_here, token_here}
+use Rattle.wire_format.proofs.GroupLemmas.{IsWithin, is_some, is_none, within_some, within_more, within_end, content_more, group_whole, token_fault, stray_here, deep_here, token_here}
+use Rattle.wire_format.proofs.FirstField.{group_fault, group_fault_here}
 use Rattle.wire_format.proofs.group.group_end.Goals as goal
 
 pub returns-in-Err : goal.returns-in-Err
@@ -12,8 +13,8 @@ returns-in-Err c =
     let bytes = c.args.bytes.now in
     let loop = c.loop-at.invariant in
     let fault = c.in-Err.fault in
-    fault_at bytes c.loop-at.at fault.place c.loop-at.groups.items fault.reason loop.inside
-    (all_open bytes c.args.start c.loop-at.at c.args.group c.loop-at.groups.items loop.starts loop.inside c.requires.is_start loop.is_within)
+    group_fault bytes c.args.start c.loop-at.at fault.place c.args.group c.loop-at.groups.items fault.reason loop.starts loop.inside
+    c.requires.is_start loop.is_within
     (token_fault c.loop-at.groups.items (drop c.loop-at.at bytes) fault.reason fault.place
     (omega (arith, length-drop c.loop-at.at bytes, c.loop-at-test.true))
     (subst (λ rest. IsTokenFault rest fault.reason fault.place) (from_place bytes c.loop-at.at) c.in-Err.ensures))
@@ -63,12 +64,10 @@ returns-in-Stray c =
     let token = c.in-Ok.token in
     let here = token_here bytes c.loop-at.at token.len token.number token.body loop.inside c.in-Ok.ensures in
     let numbers = c.loop-at.groups.items in
-    subst (IsFault bytes StrayEnd) (let same : c.loop-at.at + 0 ≡ c.loop-at.at = omega arith in same)
-    (fault_at bytes c.loop-at.at 0 numbers StrayEnd loop.inside
-    (all_open bytes c.args.start c.loop-at.at c.args.group c.loop-at.groups.items loop.starts loop.inside c.requires.is_start loop.is_within)
+    group_fault_here bytes c.args.start c.loop-at.at c.args.group numbers StrayEnd loop.starts loop.inside c.requires.is_start loop.is_within
     (stray_here numbers (drop c.loop-at.at bytes) token.len token.number
     (subst (IsToken (take token.len (drop c.loop-at.at bytes)) token.number) c.in-Stray.ensures.0 here.1)
-    c.in-Stray.ensures.1))
+    c.in-Stray.ensures.1)
 
 pub returns-in-TooDeep : goal.returns-in-TooDeep
 returns-in-TooDeep c =
@@ -77,12 +76,10 @@ returns-in-TooDeep c =
     let token = c.in-Ok.token in
     let here = token_here bytes c.loop-at.at token.len token.number token.body loop.inside c.in-Ok.ensures in
     let numbers = c.loop-at.groups.items in
-    subst (IsFault bytes TooDeep) (let same : c.loop-at.at + 0 ≡ c.loop-at.at = omega arith in same)
-    (fault_at bytes c.loop-at.at 0 numbers TooDeep loop.inside
-    (all_open bytes c.args.start c.loop-at.at c.args.group c.loop-at.groups.items loop.starts loop.inside c.requires.is_start loop.is_within)
+    group_fault_here bytes c.args.start c.loop-at.at c.args.group numbers TooDeep loop.starts loop.inside c.requires.is_start loop.is_within
     (deep_here numbers (drop c.loop-at.at bytes) token.len token.number
     (subst (IsToken (take token.len (drop c.loop-at.at bytes)) token.number) c.in-TooDeep.ensures.0 here.1)
-    (omega (arith, c.in-TooDeep.ensures.1))))
+    (omega (arith, c.in-TooDeep.ensures.1)))
 
 pub returns : goal.returns
 returns c =
@@ -91,7 +88,5 @@ returns c =
     let numbers = c.loop-at.groups.items in
     let none : drop c.loop-at.at bytes ≡ []
     = nil_from_length (drop c.loop-at.at bytes) (omega (arith, length-drop c.loop-at.at bytes, c.loop-at-test.false)) in
-    subst (IsFault bytes OpenGroup) (let same : c.loop-at.at + 0 ≡ c.loop-at.at = omega arith in same)
-    (fault_at bytes c.loop-at.at 0 numbers OpenGroup loop.inside
-    (all_open bytes c.args.start c.loop-at.at c.args.group c.loop-at.groups.items loop.starts loop.inside c.requires.is_start loop.is_within)
-    (refl, none, within_some c.args.group numbers (drop c.args.start (take c.loop-at.at bytes)) loop.is_within))
+    group_fault_here bytes c.args.start c.loop-at.at c.args.group numbers OpenGroup loop.starts loop.inside c.requires.is_start loop.is_within
+    (refl, none, within_some c.args.group numbers (drop c.args.start (take c.loop-at.at bytes)) loop.is_within)
