@@ -1,9 +1,10 @@
 -- The hashes of client tags, and the texts by which messages carry them.
-use Rattle.std.specs.Prelude.{◌≡◌, ◌≢◌, ℕ, ◌<◌, List, ◌++◌, length, slice_index}
+use Rattle.std.specs.Prelude.{◌≡◌, ◌≢◌, ℕ, ◌<◌, ◌==◌, if◌then◌else◌, List, ◌++◌, length, slice_index, Option, Some, None, Result, Ok, Err}
 use Rattle.sha1.specs.Sha1.{sha1}
 use Rattle.base64.specs.Engines.{standard}
-use Rattle.base64.specs.GeneralPurpose.{encode_of}
+use Rattle.base64.specs.GeneralPurpose.{encode_of, decode_of}
 use Rattle.client_tags.specs.declared.Kind.{Kind}
+use Rattle.client_tags.specs.declared.hash.TagHash.{TagHash}
 use Rattle.client_tags.specs.Kinds.{specifics_prefix}
 
 -- the hash of a type's tag: SHA-1 (FIPS 180-4) over an empty specifics of the type and the tag
@@ -22,3 +23,21 @@ pub record IsHash (bytes : List ℕ) : Type 0 where
 -- a text that is no hash's
 abbrev pub IsNoHashText : List ℕ → Type 0
 IsNoHashText text = (bytes : List ℕ) → IsHash bytes → text ≢ hash_text bytes
+
+-- twenty bytes
+abbrev pub twenty : List ℕ → Option (List ℕ)
+twenty bytes = if length bytes == 20 then Some bytes else None
+
+-- the bytes that a text stands for by its base64, where they are twenty
+unfoldable pub hash_bytes_of : List ℕ → Option (List ℕ)
+hash_bytes_of text = elim (decode_of standard text) as (λ decoded. Option (List ℕ)) [
+  | Ok bytes ↦ twenty bytes
+  | Err fault ↦ None
+]
+
+-- the hash of a text, if it is one's
+abbrev pub hash_of_text : List ℕ → Option TagHash
+hash_of_text text = elim (hash_bytes_of text) as (λ bytes. Option TagHash) [
+  | None ↦ None
+  | Some bytes ↦ Some (record { bytes = bytes })
+]

@@ -2,7 +2,7 @@ ghost use Rattle.std.specs.Prelude.{◌≡◌, ◌↔◌, Ok, Some, IfSome, IfNo
 ghost use Rattle.base64.specs.Engines.{standard};
 ghost use Rattle.base64.specs.GeneralPurpose.{decode_of};
 ghost use Rattle.client_tags.specs.Kinds.{specifics_prefix};
-ghost use Rattle.client_tags.specs.Hashes.{tag_hash, hash_text, IsHash, IsNoHashText};
+ghost use Rattle.client_tags.specs.Hashes.{tag_hash, hash_text, hash_of_text, hash_bytes_of, IsHash, IsNoHashText};
 ghost use Rattle.client_tags.specs.declared.hash.TagHash.{TagHash};
 
 use crate::Kind;
@@ -31,6 +31,7 @@ impl TagHash {
     /// no bits set past the last byte.
     #[tactic(auto, using(crate::proofs::HashTexts::text_of_decoded))]
     pub fn from_text(text: &[u8]) -> Option<TagHash>
+        ensures is_hash { result ≡ hash_of_text text.now }
         ensures found { (hash : TagHash) → IsHash hash.bytes → (result ≡ Some hash) ↔ (text.now ≡ hash_text hash.bytes) }
         ensures some { IfSome result (λ hash. text.now ≡ hash_text hash.bytes) }
         ensures none { IfNone result (IsNoHashText text.now) }
@@ -42,6 +43,7 @@ impl TagHash {
 
 // The twenty bytes that a text of 28 characters stands for.
 fn hash_bytes(text: &[u8]) -> Option<[u8; 20]>
+    ensures is { result ≡ hash_bytes_of text.now }
     ensures some { IfSome result (λ bytes. decode_of standard text.now ≡ Ok bytes) }
     ensures none { IfNone result (IsNoHashText text.now) }
 {
@@ -59,6 +61,7 @@ fn hash_bytes(text: &[u8]) -> Option<[u8; 20]>
 }
 
 // An empty specifics of the type, as its bytes.
+#[tactic(auto, unfolding(wire_format::specs::Spellings::least_groups))]
 fn specifics_prefix(kind: Kind) -> [u8; 4]
     ensures { result ≡ specifics_prefix kind }
 {

@@ -3,7 +3,7 @@
 
 ghost use Rattle.std.specs.Prelude.{◌≡◌, ◌↔◌, ◌≢◌, Some, IfNone};
 ghost use Rattle.client_tags.specs.declared.Kind.{Kind};
-ghost use Rattle.client_tags.specs.Kinds.{kind_number};
+ghost use Rattle.client_tags.specs.Kinds.{kind_number, kind_of_number};
 
 mod hash;
 mod memory;
@@ -39,6 +39,7 @@ impl Kind {
 
     /// The type of a number, if it is that of one of these.
     pub fn from_number(number: u64) -> Option<Kind>
+        ensures is_kind { result ≡ kind_of_number number }
         ensures found { (kind : Kind) → (result ≡ Some kind) ↔ (number ≡ kind_number kind) }
         ensures none { IfNone result ((kind : Kind) → number ≢ kind_number kind) }
     {

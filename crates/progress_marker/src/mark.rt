@@ -1,5 +1,5 @@
-ghost use Rattle.std.specs.Prelude.{◌≡◌, ◌^◌, ◌<◌, ◌↔◌, [], length, Ok, IsErr, IsOkAnd, IfErr};
-ghost use Rattle.progress_marker.specs.Tokens.{token_of, HasBadLength};
+ghost use Rattle.std.specs.Prelude.{◌≡◌, ◌^◌, ◌<◌, ◌↔◌, [], length, Ok, IsErr, IsOkAnd, IfOk, IfErr};
+ghost use Rattle.progress_marker.specs.Tokens.{token_of, version_of, HasBadLength};
 ghost use Rattle.progress_marker.specs.declared.mark.Mark.{Mark};
 
 use crate::BadToken;
@@ -21,8 +21,9 @@ impl Mark {
     }
 
     /// The mark that a token tells. A client that has no token yet sends an empty one.
-    #[tactic(auto, unfolding(crate::specs::Tokens::token_of))]
+    #[tactic(auto, unfolding(crate::specs::Tokens::token_of, crate::specs::Tokens::version_of))]
     pub fn read(token: &[u8]) -> Result<Mark, BadToken>
+        ensures version { IfOk result (λ mark. mark.version ≡ version_of token.now) }
         ensures empty { token.now ≡ [] → result ≡ Ok (record { version = 0 }) }
         ensures eight { length token.now ≡ 8 → IsOkAnd result (λ mark. token_of mark.version ≡ token.now) }
         ensures own { (mark : Mark) → mark.version < 2 ^ 64 → token.now ≡ token_of mark.version → result ≡ Ok mark }
