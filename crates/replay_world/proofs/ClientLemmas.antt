@@ -2,8 +2,8 @@
 use Rattle.std.proofs.Common.{◌≡◌, ℕ, ◌+◌, ◌-◌, ◌≤◌, arith, Bool, true, false, cond, List, [], ◌∷◌, ◌++◌, length, map, take, Option, Some, None, refl, sym, ap, ◌∙◌}
 use Rattle.std.specs.Prelude.{◌||◌, ◌==◌, nat_lt, is_some}
 use Rattle.client_tags.specs.declared.Kind.TheVariants.{Nigori, Preference, Password}
-use Rattle.sync_specifics.specs.declared.edit.Edit.{Edit}
-use Rattle.sync_specifics.specs.declared.edit.Edit.TheVariants.{SetPreference, DeletePreference, SetPassword, DeletePassword, SetNigori}
+use Rattle.sync_values.specs.declared.edit.Edit.{Edit}
+use Rattle.sync_values.specs.declared.edit.Edit.TheVariants.{SetPreference, DeletePreference, SetPassword, DeletePassword, SetNigori}
 use Rattle.sync_model.specs.declared.event.EventOutcome.TheVariants.{Void, Done, Edited, Requested}
 use Rattle.sync_model.specs.declared.fate.Settlement.{Settlement}
 use Rattle.std.specs.List.{AllByRecursion}
@@ -18,7 +18,7 @@ use Rattle.sync_model.specs.declared.message.Task.TheVariants.{Acks}
 use Rattle.sync_model.specs.Keys.{names, edit_tag, edit_value, edit_length}
 use Rattle.sync_model.specs.Sides.{States, is_full, state_at, with_state, after_acks, notes_of, due_entries}
 use Rattle.sync_model.specs.KeyStates.{edited}
-use Rattle.sync_specifics.specs.declared.value.Value.{Value}
+use Rattle.sync_values.specs.declared.value.Value.{Value}
 use Rattle.sync_model.specs.Clients.{Client, MAX_TEXT, MAX_ENTRIES, Effect, plain_effect, follows, holds_kind, ack_for, acks_of, letter_of, answer_effect, edit_effect, edit_effect_at, turn_effect, gather_effect, offer_effect, post_effect}
 use Rattle.sync_model.specs.Worlds.{settlement_of}
 use Rattle.replay_world.specs.Clients.{Happens}

@@ -4,7 +4,7 @@ use Rattle.std.specs.Prelude.{reverse, Result, Ok, Err, IfOk}
 use Rattle.std.proofs.lemmas.List.{append-nil, length-reverse}
 use Rattle.client_tags.specs.declared.Kind.{Kind}
 use Rattle.client_tags.specs.declared.Kind.TheVariants.{Preference}
-use Rattle.sync_specifics.specs.declared.edit.Edit.{Edit as Change}
+use Rattle.sync_values.specs.declared.edit.Edit.{Edit as Change}
 use Rattle.sync_model.specs.declared.event.Event.{Event}
 use Rattle.sync_model.specs.declared.event.Event.TheVariants.{Edit, Turn, Gather, Post, Offer, Deliver, Answer}
 use Rattle.sync_model.specs.declared.event.EventOutcome.{EventOutcome}

@@ -1,8 +1,8 @@
 -- The events that a world of this stage can step.
 use Rattle.std.specs.Prelude.{◌≡◌, IsTrue, length}
 use Rattle.client_tags.specs.declared.Kind.TheVariants.{Preference}
-use Rattle.sync_specifics.specs.declared.edit.Edit.{Edit as Change}
-use Rattle.sync_specifics.specs.declared.edit.Edit.TheVariants.{SetPreference, DeletePreference, SetPassword, DeletePassword, SetNigori}
+use Rattle.sync_values.specs.declared.edit.Edit.{Edit as Change}
+use Rattle.sync_values.specs.declared.edit.Edit.TheVariants.{SetPreference, DeletePreference, SetPassword, DeletePassword, SetNigori}
 use Rattle.sync_model.specs.declared.event.Event.{Event}
 use Rattle.sync_model.specs.declared.event.Event.TheVariants.{Edit, Turn, Gather, Post, Offer, Deliver, Answer}
 use Rattle.sync_model.specs.Report.{is_void}

@@ -5,7 +5,7 @@ use super::*;
 use std::alloc::Global;
 use std::test::Fail;
 use sync_model::{Edit, Event, Kind, Schedule};
-use sync_specifics::Preference;
+use sync_values::Preference;
 use wire_fields::{List, NoMemory, Octets};
 
 fn set_a(alloc: Global) -> Result<Event, NoMemory>

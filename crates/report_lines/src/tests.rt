@@ -2,7 +2,7 @@ use super::*;
 use std::alloc::Global;
 use std::test::Fail;
 use sync_model::{Content, Entry, Fate, Key, Kind, Value};
-use sync_specifics::{Password, Preference};
+use sync_values::{Password, Preference};
 use wire_fields::{NoMemory, Octets};
 
 #[test]

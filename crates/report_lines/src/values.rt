@@ -6,7 +6,7 @@ ghost use Rattle.report_lines.specs.Continued.{Continues};
 use crate::pieces::{Piece, write_pieces};
 use crate::words::write_text;
 use sync_model::Value;
-use sync_specifics::{Password, Preference};
+use sync_values::{Password, Preference};
 use wire_fields::{NoMemory, Octets};
 
 fn write_preference(out: &mut Vec<u8>, preference: &Preference) -> Result<(), NoMemory>

@@ -4,9 +4,9 @@ use Rattle.std.specs.Fmt.{decimal}
 use Rattle.std.proofs.lemmas.Fmt.{decimal_digit}
 use Rattle.client_tags.specs.declared.Kind.{Kind}
 use Rattle.client_tags.specs.declared.Kind.TheVariants.{Preference}
-use Rattle.sync_specifics.specs.declared.edit.Edit.{Edit as Change}
-use Rattle.sync_specifics.specs.declared.edit.Edit.TheVariants.{SetPreference, DeletePreference, SetPassword, DeletePassword, SetNigori}
-use Rattle.sync_specifics.specs.declared.value.Preference.{Preference as Pref}
+use Rattle.sync_values.specs.declared.edit.Edit.{Edit as Change}
+use Rattle.sync_values.specs.declared.edit.Edit.TheVariants.{SetPreference, DeletePreference, SetPassword, DeletePassword, SetNigori}
+use Rattle.sync_values.specs.declared.value.Preference.{Preference as Pref}
 use Rattle.sync_model.specs.declared.event.Event.{Event}
 use Rattle.sync_model.specs.declared.event.Event.TheVariants.{Edit, Turn, Gather, Post, Offer, Deliver, Answer}
 use Rattle.sync_model.specs.Text.{text_word, kind_word}

@@ -3,7 +3,7 @@ use Rattle.std.proofs.Common.{◌≡◌, ◌≢◌, ℕ, ◌≤◌, List, [], �
 use Rattle.std.specs.Prelude.{IfOk}
 use Rattle.std.specs.List.{AllByRecursion}
 use Rattle.std.proofs.lemmas.List.{append_cancel_left}
-use Rattle.sync_specifics.specs.declared.value.Preference.{Preference}
+use Rattle.sync_values.specs.declared.value.Preference.{Preference}
 use Rattle.sync_model.specs.Text.{text_word}
 use Rattle.sync_model.specs.Report.{preference_text}
 use Rattle.schedule_text.specs.Spelling.{AreBytes}

@@ -1,7 +1,7 @@
 -- The words of the reader's parts.
 use Rattle.std.specs.Prelude.{◌≡◌, ◌≢◌, ℕ, ◌+◌, ◌≤◌, List, ◌∷◌, ◌++◌, length, Option, MatchOption}
 use Rattle.std.specs.List.{AllByRecursion, flat_map}
-use Rattle.sync_specifics.specs.declared.value.Preference.{Preference}
+use Rattle.sync_values.specs.declared.value.Preference.{Preference}
 use Rattle.sync_model.specs.declared.event.Event.{Event}
 use Rattle.sync_model.specs.declared.event.Event.TheVariants.{Edit, Turn, Gather, Post, Offer, Deliver, Answer}
 use Rattle.schedule_text.specs.declared.fault.LineReason.{LineReason}

@@ -2,8 +2,8 @@
 use Rattle.std.specs.Prelude.{◌≡◌, ℕ, ◌<◌, ◌≤◌, List, length}
 use Rattle.std.specs.List.{AllByRecursion}
 use Rattle.client_tags.specs.declared.Kind.TheVariants.{Preference}
-use Rattle.sync_specifics.specs.declared.edit.Edit.{Edit as Change}
-use Rattle.sync_specifics.specs.declared.edit.Edit.TheVariants.{SetPreference, DeletePreference, SetPassword, DeletePassword, SetNigori}
+use Rattle.sync_values.specs.declared.edit.Edit.{Edit as Change}
+use Rattle.sync_values.specs.declared.edit.Edit.TheVariants.{SetPreference, DeletePreference, SetPassword, DeletePassword, SetNigori}
 use Rattle.sync_model.specs.declared.event.Event.{Event}
 use Rattle.sync_model.specs.declared.event.Event.TheVariants.{Edit, Turn, Gather, Post, Offer, Deliver, Answer}
 use Rattle.sync_model.specs.declared.event.Schedule.{Schedule}

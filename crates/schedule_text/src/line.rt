@@ -13,7 +13,7 @@ use crate::pieces::{after, are_same, cut_at};
 use crate::text_word::text_of;
 use std::alloc::Global;
 use sync_model::{Edit, Event, Kind};
-use sync_specifics::Preference;
+use sync_values::Preference;
 use wire_fields::{NoMemory, Octets};
 
 /// The preference that two words spell.

@@ -4,7 +4,7 @@ use Rattle.std.specs.Prelude.{codes}
 use Prim.Native.String.{String}
 use Rattle.std.specs.Fmt.{digits}
 use Rattle.client_tags.specs.declared.Kind.TheVariants.{Preference}
-use Rattle.sync_specifics.specs.declared.edit.Edit.TheVariants.{SetPreference}
+use Rattle.sync_values.specs.declared.edit.Edit.TheVariants.{SetPreference}
 use Rattle.sync_model.specs.declared.event.Event.{Event}
 use Rattle.sync_model.specs.declared.event.Event.TheVariants.{Edit, Turn, Gather, Post, Offer, Deliver, Answer}
 use Rattle.sync_model.specs.Text.{text_word, kind_word}

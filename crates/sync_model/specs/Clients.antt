@@ -4,7 +4,7 @@ use Rattle.std.specs.Prelude.{ℕ, ◌+◌, ◌-◌, Bool, true, false, ◌||◌
 use Rattle.std.specs.List.{list_any}
 use Rattle.client_tags.specs.declared.Kind.{Kind}
 use Rattle.client_tags.specs.declared.Kind.TheVariants.{Nigori, Preference, Password}
-use Rattle.sync_specifics.specs.declared.edit.Edit.{Edit}
+use Rattle.sync_values.specs.declared.edit.Edit.{Edit}
 use Rattle.sync_model.specs.declared.event.EventOutcome.{EventOutcome}
 use Rattle.sync_model.specs.declared.event.EventOutcome.TheVariants.{Done, Edited, Requested}
 use Rattle.sync_model.specs.declared.fate.Fate.TheVariants.{Followed}

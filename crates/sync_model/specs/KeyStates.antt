@@ -1,7 +1,7 @@
 -- What a client knows of one key, and what an edit and an acknowledgement make of it.
 use Rattle.std.specs.Prelude.{ℕ, Bool, ◌||◌, nat_le, nat_lt, if◌then◌else◌, Option, Some, None, is_some}
-use Rattle.sync_specifics.specs.declared.value.Value.{Value}
-use Rattle.sync_specifics.specs.declared.value.Value.TheVariants.{Absent}
+use Rattle.sync_values.specs.declared.value.Value.{Value}
+use Rattle.sync_values.specs.declared.value.Value.TheVariants.{Absent}
 use Rattle.sync_model.specs.declared.state.KeyState.{KeyState}
 use Rattle.sync_model.specs.declared.message.Ack.{Ack}
 

@@ -4,11 +4,11 @@ use Rattle.std.specs.Str.{bytes_eq}
 use Rattle.client_tags.specs.declared.Kind.{Kind}
 use Rattle.client_tags.specs.declared.Kind.TheVariants.{Nigori, Preference, Password}
 use Rattle.client_tags.specs.Tags.{password_tag, nigori_tag}
-use Rattle.sync_specifics.specs.declared.value.NigoriValue.{NigoriValue}
-use Rattle.sync_specifics.specs.declared.value.Value.{Value}
-use Rattle.sync_specifics.specs.declared.value.Value.TheVariants.{Absent, Preference as Setting_value, Password as Login_value, Nigori as Keys_value}
-use Rattle.sync_specifics.specs.declared.edit.Edit.{Edit}
-use Rattle.sync_specifics.specs.declared.edit.Edit.TheVariants.{SetPreference, DeletePreference, SetPassword, DeletePassword, SetNigori}
+use Rattle.sync_values.specs.declared.value.NigoriValue.{NigoriValue}
+use Rattle.sync_values.specs.declared.value.Value.{Value}
+use Rattle.sync_values.specs.declared.value.Value.TheVariants.{Absent, Preference as Setting_value, Password as Login_value, Nigori as Keys_value}
+use Rattle.sync_values.specs.declared.edit.Edit.{Edit}
+use Rattle.sync_values.specs.declared.edit.Edit.TheVariants.{SetPreference, DeletePreference, SetPassword, DeletePassword, SetNigori}
 use Rattle.sync_model.specs.declared.message.Key.{Key}
 use Rattle.sync_model.specs.Text.{text_word}
 

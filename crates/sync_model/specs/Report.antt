@@ -4,10 +4,10 @@ use Rattle.std.specs.List.{flat_map}
 use Rattle.std.specs.Fmt.{decimal, signed_decimal}
 use Rattle.client_tags.specs.declared.Kind.{Kind}
 use Rattle.client_tags.specs.declared.Kind.TheVariants.{Nigori, Preference, Password}
-use Rattle.sync_specifics.specs.declared.value.Password.{Password as Login}
-use Rattle.sync_specifics.specs.declared.value.Preference.{Preference as Pref}
-use Rattle.sync_specifics.specs.declared.value.Value.{Value}
-use Rattle.sync_specifics.specs.declared.value.Value.TheVariants.{Absent, Preference as Setting_value, Password as Login_value, Nigori as Keys_value}
+use Rattle.sync_values.specs.declared.value.Password.{Password as Login}
+use Rattle.sync_values.specs.declared.value.Preference.{Preference as Pref}
+use Rattle.sync_values.specs.declared.value.Value.{Value}
+use Rattle.sync_values.specs.declared.value.Value.TheVariants.{Absent, Preference as Setting_value, Password as Login_value, Nigori as Keys_value}
 use Rattle.sync_model.specs.declared.event.EventOutcome.{EventOutcome}
 use Rattle.sync_model.specs.declared.event.EventOutcome.TheVariants.{Void, Done, Edited, Requested, Delivered}
 use Rattle.sync_model.specs.declared.fate.Fate.{Fate}

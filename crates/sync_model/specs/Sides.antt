@@ -4,7 +4,7 @@ use Rattle.std.specs.Ordering.{nat_cmp}
 use Rattle.std.specs.Cmp.Lexicographic.{slice_cmp}
 use Rattle.std.specs.BTreeMap.{is_at, insert_entry}
 use Rattle.std.specs.Map.{lookup, set_value}
-use Rattle.sync_specifics.specs.declared.value.Value.{Value}
+use Rattle.sync_values.specs.declared.value.Value.{Value}
 use Rattle.sync_model.specs.declared.message.Ack.{Ack}
 use Rattle.client_tags.specs.declared.Kind.{Kind}
 use Rattle.sync_model.specs.declared.message.Content.{Content}

@@ -1,5 +1,5 @@
 use crate::message::{Answer, Content, Entry};
-use sync_specifics::{Edit, Kind};
+use sync_values::{Edit, Kind};
 use wire_fields::List;
 
 /// One step of a recorded run. Clients are numbered from 1, and so are the events of a schedule, by

@@ -1,4 +1,4 @@
-use sync_specifics::Kind;
+use sync_values::Kind;
 
 /// What settled an edit.
 #[derive(Clone, Copy, Debug, PartialEq, Eq)]

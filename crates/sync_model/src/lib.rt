@@ -13,7 +13,7 @@ pub use fate::{Fate, Note, Settlement};
 pub use laws::every_write_is_based;
 pub use message::{Ack, Answer, Content, Entry, Key, Task};
 pub use state::KeyState;
-pub use sync_specifics::{Edit, Kind, Value};
+pub use sync_values::{Edit, Kind, Value};
 
 #[cfg(test)]
 mod tests;

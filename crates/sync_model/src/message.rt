@@ -1,4 +1,4 @@
-use sync_specifics::{Kind, Value};
+use sync_values::{Kind, Value};
 use wire_fields::{List, Octets};
 
 /// What names an entity: its type, and the hash of its client tag.

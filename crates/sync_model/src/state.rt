@@ -1,4 +1,4 @@
-use sync_specifics::Value;
+use sync_values::Value;
 use wire_fields::Octets;
 
 /// What a client knows of one key.

@@ -1,5 +1,5 @@
 // Each copy once with ample memory, its fields beside those that it was made from.
-use super::*;
+use crate::*;
 use std::alloc::Global;
 use std::test::Fail;
 use wire_fields::{List, NoMemory, Octets};

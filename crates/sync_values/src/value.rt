@@ -1,4 +1,5 @@
 ghost use Rattle.std.specs.Prelude.{◌≡◌, IfOk};
+ghost use Rattle.sync_values.specs.PassKinds.{pass_kind_number, pass_kind_of_number};
 
 use key_derivation::NigoriKey;
 use wire_fields::{List, NoMemory, Octets};
@@ -49,6 +50,35 @@ pub enum Value {
     Preference(Preference),
     Password(Password),
     Nigori(NigoriValue),
+}
+
+impl PassKind {
+    /// The number by which messages name the kind.
+    pub fn number(self) -> u32
+        ensures { result ≡ pass_kind_number self }
+    {
+        match self {
+            PassKind::Implicit => 1,
+            PassKind::Keystore => 2,
+            PassKind::Frozen => 3,
+            PassKind::Custom => 4,
+            PassKind::Vault => 5,
+        }
+    }
+
+    /// The kind of a number, if it is that of one.
+    pub fn from_number(number: u64) -> Option<PassKind>
+        ensures { result ≡ pass_kind_of_number number }
+    {
+        match number {
+            1 => Some(PassKind::Implicit),
+            2 => Some(PassKind::Keystore),
+            3 => Some(PassKind::Frozen),
+            4 => Some(PassKind::Custom),
+            5 => Some(PassKind::Vault),
+            _ => None,
+        }
+    }
 }
 
 impl Preference {
