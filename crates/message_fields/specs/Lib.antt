@@ -1,0 +1,7 @@
+pub mod Fields
+pub mod Readings
+pub mod Lookups
+pub mod Faults
+pub mod Tables
+pub mod Written
+pub mod Laws
