@@ -1,0 +1,6 @@
+pub mod SealedTexts
+pub mod Preferences
+pub mod Logins
+pub mod Keys
+pub mod Specifics
+pub mod Laws

@@ -1,0 +1,13 @@
+mod keys;
+mod logins;
+mod preferences;
+mod specifics;
+mod specifics_faults;
+
+use crate::{bytes_say_one_thing, written_values_are_read};
+
+#[test]
+fn has_laws() {
+    bytes_say_one_thing();
+    written_values_are_read();
+}
