@@ -1,0 +1,5 @@
+mod entities;
+mod replies;
+mod reply_faults;
+mod request_faults;
+mod requests;
