@@ -1,2 +1,7 @@
-pub mod Rows
 pub mod Versions
+pub mod Runs
+pub mod CommitRows
+pub mod ConflictRows
+pub mod PassphraseRows
+pub mod CrashRows
+pub mod TableRows

@@ -6,7 +6,7 @@ use Rattle.sync_model.specs.declared.event.EventOutcome.{EventOutcome}
 use Rattle.sync_model.specs.declared.event.EventOutcome.TheVariants.{Void, Done, Edited, Requested, Delivered}
 use Rattle.sync_model.specs.declared.fate.Fate.{Fate}
 use Rattle.sync_model.specs.declared.fate.Settlement.{Settlement}
-use Rattle.sync_model.specs.Keys.{same_kind}
+use Rattle.sync_model.specs.Values.{same_kind}
 
 -- a settlement is of this edit
 abbrev pub is_of_edit : ℕ → Kind → ℕ → Settlement → Bool
@@ -23,8 +23,8 @@ abbrev pub edit_made : ℕ → Kind → EventOutcome → List ℕ
 edit_made client kind (Edited editor edited number) = if editor == client && same_kind edited kind then number ∷ [] else []
 edit_made client kind Void = []
 edit_made client kind Done = []
-edit_made client kind (Requested author entries) = []
-edit_made client kind (Delivered request answers) = []
+edit_made client kind (Requested author request) = []
+edit_made client kind (Delivered request reply) = []
 
 -- the acknowledged edits of a client and a type, by their numbers
 unfoldable pub edits_made : ℕ → Kind → List EventOutcome → List ℕ

@@ -1,19 +1,21 @@
 -- A side: what a client has of one type.
-use Rattle.std.specs.Prelude.{ℕ, ◌+◌, ◌-◌, ◌^◌, Bool, ◌||◌, ◌&&◌, ◌==◌, nat_le, not, if◌then◌else◌, List, [], ◌∷◌, ◌++◌, length, count_by, Option, Some, None, is_some, unwrap_or}
+use Rattle.std.specs.Prelude.{ℕ, ◌+◌, ◌-◌, ◌^◌, Bool, ◌||◌, ◌&&◌, ◌==◌, nat_le, max, not, if◌then◌else◌, List, [], ◌∷◌, ◌++◌, length, count_by, Option, Some, None, is_some, unwrap_or}
 use Rattle.std.specs.Ordering.{nat_cmp}
 use Rattle.std.specs.Cmp.Lexicographic.{slice_cmp}
 use Rattle.std.specs.BTreeMap.{is_at, insert_entry}
 use Rattle.std.specs.Map.{lookup, set_value}
 use Rattle.sync_values.specs.declared.value.Value.{Value}
-use Rattle.sync_model.specs.declared.message.Ack.{Ack}
-use Rattle.client_tags.specs.declared.Kind.{Kind}
-use Rattle.sync_model.specs.declared.message.Content.{Content}
-use Rattle.sync_model.specs.declared.message.Entry.{Entry}
-use Rattle.sync_model.specs.declared.message.Task.{Task}
+use Rattle.sync_model.specs.declared.conflict.Decision.{Decision}
+use Rattle.sync_model.specs.declared.fate.Fate.{Fate}
 use Rattle.sync_model.specs.declared.fate.Fate.TheVariants.{Committed}
 use Rattle.sync_model.specs.declared.fate.Note.{Note}
+use Rattle.sync_model.specs.declared.message.Ack.{Ack}
+use Rattle.sync_model.specs.declared.message.Batch.{Batch}
+use Rattle.sync_model.specs.declared.message.Task.{Task}
+use Rattle.sync_model.specs.declared.message.Task.TheVariants.{Batch as Updating, Acks}
+use Rattle.sync_model.specs.declared.message.Update.{Update}
 use Rattle.sync_model.specs.declared.state.KeyState.{KeyState}
-use Rattle.sync_model.specs.KeyStates.{new_state, edited, acknowledged, ended}
+use Rattle.sync_model.specs.KeyStates.{new_state, edited, is_old, updated, fate_of_update, acknowledged, ended}
 
 -- key states by ascending hash
 abbrev pub States : Type 0
@@ -31,18 +33,33 @@ has_state states hash = is_some (lookup (is_at (slice_cmp nat_cmp hash)) states)
 abbrev pub with_state : States → List ℕ → KeyState → States
 with_state states hash state = insert_entry (slice_cmp nat_cmp) states hash state
 
--- The version up to which the side has all writes, its key states, the number of the last edit, the tasks
--- that wait for a turn, and what the last reply says of the type and is not yet posted.
+-- What is kept: the version up to which the side has all writes, its key states, and the number of the last
+-- edit. What a crash forgets: the version up to which it has seen all writes, the tasks that wait for a turn,
+-- the batch that waits for a key, and what the last reply says of the type and is not yet posted.
 pub record Side : Type 0 where
   pub mark : ℕ
   pub states : States
   pub last_edit : ℕ
+  pub seen : ℕ
   pub mailbox : List Task
-  pub letter : Option (List Ack)
+  pub pending : Option Batch
+  pub letter : Option Task
 
 -- a side that nothing has happened to
 abbrev pub new_side : Side
-new_side = record { mark = 0; states = []; last_edit = 0; mailbox = []; letter = None }
+new_side = record { mark = 0; states = []; last_edit = 0; seen = 0; mailbox = []; pending = None; letter = None }
+
+-- what a crash leaves of a side
+abbrev pub restarted_side : Side → Side
+restarted_side side = record {
+  mark = side.mark;
+  states = side.states;
+  last_edit = side.last_edit;
+  seen = side.mark;
+  mailbox = [];
+  pending = None;
+  letter = None;
+}
 
 -- how many keys a side has room for
 abbrev pub MAX_STATES : ℕ
@@ -63,6 +80,17 @@ side_edited side hash value = record side {
   last_edit = side.last_edit + 1;
 }
 
+-- the states after an update; one that changes nothing leaves no state behind
+unfoldable pub after_update : (Value → Value → Decision) → States → Update → States
+after_update decided states update =
+    if is_old (state_at states update.hash) update then states
+    else with_state states update.hash (updated decided (state_at states update.hash) update)
+
+-- the states after some updates, one after another
+unfoldable pub after_updates : (Value → Value → Decision) → States → List Update → States
+after_updates decided states [] = states
+after_updates decided states (update ∷ updates) = after_updates decided (after_update decided states update) updates
+
 -- the states with another one in place of that of a key, if the key has one
 abbrev pub replaced : States → List ℕ → KeyState → States
 replaced states hash state = set_value (is_at (slice_cmp nat_cmp hash)) states state
@@ -76,6 +104,18 @@ unfoldable pub after_acks : States → List Ack → States
 after_acks states [] = states
 after_acks states (ack ∷ acks) = after_acks (after_ack states ack) acks
 
+-- the note of an edit, if there is one, and of its fate, if it has one
+abbrev pub note_with : Option ℕ → Option Fate → List Note
+note_with (Some number) (Some fate) = record { number = number; fate = fate } ∷ []
+note_with _ _ = []
+
+-- what some updates settle, in their order
+unfoldable pub update_notes : (Value → Value → Decision) → States → List Update → List Note
+update_notes decided states [] = []
+update_notes decided states (update ∷ updates) =
+    note_with (state_at states update.hash).due (fate_of_update decided (state_at states update.hash) update)
+    ++ update_notes decided (after_update decided states update) updates
+
 -- the edit that an acknowledgement ends, if any, with the version that it has
 abbrev pub note_of : Option ℕ → ℕ → List Note
 note_of None version = []
@@ -87,39 +127,31 @@ notes_of states [] = []
 notes_of states (ack ∷ acks) =
     note_of (ended (state_at states ack.hash) ack) ack.version ++ notes_of (after_ack states ack) acks
 
+-- a side after a task; a batch raises the mark
+unfoldable pub after_task : (Value → Value → Decision) → Side → Task → Side
+after_task decided side (Updating batch) =
+    record side { states = after_updates decided side.states batch.updates; mark = max side.mark batch.mark }
+after_task decided side (Acks acks) = record side { states = after_acks side.states acks }
+
+-- what a task settles
+unfoldable pub task_notes : (Value → Value → Decision) → States → Task → List Note
+task_notes decided states (Updating batch) = update_notes decided states batch.updates
+task_notes decided states (Acks acks) = notes_of states acks
+
+-- a batch goes to the mailbox, and is seen; none waits for a key then
+abbrev pub mailed : Side → Batch → Side
+mailed side batch = record side { mailbox = side.mailbox ++ Updating batch ∷ []; seen = max side.seen batch.mark; pending = None }
+
 -- how many keys have something to send
 abbrev pub due_count : States → ℕ
 due_count states = count_by (λ entry. is_some entry.1.due) states
 
--- what a key has to send; no key seals it
-abbrev pub entry_for : Kind → List ℕ → KeyState → ℕ → Entry Content
-entry_for kind hash state number = record {
-  key = record { kind = kind; hash = hash };
-  version = state.known;
-  content = record { value = state.own; number = number; lock = None };
-}
-
--- an entry among others, after those of edits whose number is not greater
-abbrev pub placed : Entry Content → List (Entry Content) → List (Entry Content)
-placed entry [] = entry ∷ []
-placed entry (next ∷ rest) =
-    if nat_le next.content.number entry.content.number then next ∷ placed entry rest else entry ∷ next ∷ rest
-
--- some entries with that of another key, if it has something to send
-abbrev pub with_entry : Kind → List (Entry Content) → List ℕ → KeyState → Option ℕ → List (Entry Content)
-with_entry kind entries hash state None = entries
-with_entry kind entries hash state (Some number) = placed (entry_for kind hash state number) entries
-
--- some entries with those of further keys
-unfoldable pub with_entries : Kind → List (Entry Content) → States → List (Entry Content)
-with_entries kind entries [] = entries
-with_entries kind entries (key ∷ states) = with_entries kind (with_entry kind entries key.0 key.1 key.1.due) states
-
--- what a side has to send, by ascending number of the edits, and by ascending hash where two are equal
-abbrev pub due_entries : Kind → States → List (Entry Content)
-due_entries kind states = with_entries kind [] states
+-- how many updates wait for a key
+abbrev pub pending_count : Option Batch → ℕ
+pending_count None = 0
+pending_count (Some batch) = length batch.updates
 
 -- the side has all that the server has, and nothing waits
 abbrev pub is_caught_up : ℕ → Side → Bool
 is_caught_up version side =
-    side.mark == version && length side.mailbox == 0 && due_count side.states == 0
+    side.mark == version && length side.mailbox == 0 && not (is_some side.pending) && due_count side.states == 0

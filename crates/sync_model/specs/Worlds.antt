@@ -1,32 +1,44 @@
--- The world: the server's history, what came of each event, the clients, and the settled edits; and what
--- each event makes of it.
-use Rattle.std.specs.Prelude.{ℕ, zero, suc, ◌+◌, ◌-◌, Bool, false, ◌==◌, if◌then◌else◌, List, [], ◌∷◌, ◌++◌, length, map, slice_index_or, replicate, Option, Some, None}
+-- The world: the server's history, what came of each event, the clients, the settled edits, and the
+-- passphrases that users may know; and what each event makes of it.
+use Rattle.std.specs.Prelude.{ℕ, zero, suc, ◌+◌, ◌-◌, Bool, false, ◌==◌, ◌&&◌, if◌then◌else◌, List, [], ◌∷◌, ◌++◌, length, map, slice_index_or, replicate, codes, Option, Some, None}
 use Rattle.client_tags.specs.declared.Kind.{Kind}
+use Rattle.client_tags.specs.declared.Kind.TheVariants.{Nigori}
 use Rattle.sync_model.specs.declared.event.Event.{Event}
-use Rattle.sync_model.specs.declared.event.Event.TheVariants.{Edit, Turn, Gather, Post, Offer, Deliver, Answer}
+use Rattle.sync_model.specs.declared.event.Event.TheVariants.{Edit, Cut, Turn, Gather, Post, Ask, Offer, Lose, Crash, Deliver, Answer, SetPass, GivePass}
 use Rattle.sync_model.specs.declared.event.EventOutcome.{EventOutcome}
 use Rattle.sync_model.specs.declared.event.EventOutcome.TheVariants.{Void, Done, Edited, Requested, Delivered}
 use Rattle.sync_model.specs.declared.event.Schedule.{Schedule}
 use Rattle.sync_model.specs.declared.fate.Note.{Note}
 use Rattle.sync_model.specs.declared.fate.Settlement.{Settlement}
-use Rattle.sync_model.specs.declared.message.Answer.{Answer as Reply}
 use Rattle.sync_model.specs.declared.message.Content.{Content}
 use Rattle.sync_model.specs.declared.message.Entry.{Entry}
-use Rattle.sync_model.specs.Keys.{Setting}
-use Rattle.sync_model.specs.History.{committed, answers_to}
-use Rattle.sync_model.specs.Clients.{Client, new_client, Effect, edit_effect, turn_effect, gather_effect, offer_effect, answer_effect, post_effect}
+use Rattle.sync_model.specs.declared.message.Reply.{Reply}
+use Rattle.sync_model.specs.Values.{same_kind, is_absent}
+use Rattle.sync_model.specs.Settings.{Setting}
+use Rattle.sync_model.specs.Servers.{reply_to, history_served}
+use Rattle.sync_model.specs.Clients.{Client, new_client, Effect}
+use Rattle.sync_model.specs.Sending.{gather_effect, ask_effect, offer_effect, lose_effect}
+use Rattle.sync_model.specs.Receiving.{answer_effect, post_effect, turn_effect}
+use Rattle.sync_model.specs.Changes.{change_effect, cut_effect, crash_effect, set_pass_effect, give_pass_effect}
 
--- The history and the outcomes of the events have the newest first, the clients are in the order of their
--- numbers, and the settlements in that of the events.
+-- The history and the outcomes of the events have the newest first, the clients and the passphrases are in
+-- the order of their numbers, and the settlements in that of the events.
 pub record World : Type 0 where
   pub history : List (Entry Content)
   pub outcomes : List EventOutcome
   pub clients : List Client
   pub settlements : List Settlement
+  pub passes : List (List ℕ)
 
--- the world before any event
-abbrev pub opening : ℕ → World
-opening clients = record { history = []; outcomes = []; clients = replicate clients new_client; settlements = [] }
+-- the world before any event, with so many clients and these passphrases
+abbrev pub opening : ℕ → List (List ℕ) → World
+opening clients passes = record {
+  history = [];
+  outcomes = [];
+  clients = replicate clients new_client;
+  settlements = [];
+  passes = passes;
+}
 
 -- the client of a number; one that is not there is new
 abbrev pub client_at : List Client → ℕ → Client
@@ -38,6 +50,10 @@ with_client_at [] zero client = client ∷ []
 with_client_at [] (suc place) client = new_client ∷ with_client_at [] place client
 with_client_at (other ∷ others) zero client = client ∷ others
 with_client_at (other ∷ others) (suc place) client = other ∷ with_client_at others place client
+
+-- the passphrase of a number
+abbrev pub pass_at : List (List ℕ) → ℕ → List ℕ
+pass_at passes number = slice_index_or passes (number - 1) []
 
 -- what came of the event of a number; an event that has not come has made nothing
 unfoldable pub outcome_at : List EventOutcome → ℕ → EventOutcome
@@ -60,58 +76,78 @@ affected world number (Some effect) = record {
   outcomes = effect.outcome ∷ world.outcomes;
   clients = with_client_at world.clients (number - 1) effect.client;
   settlements = world.settlements ++ map (settlement_of number effect.kind) effect.notes;
+  passes = world.passes;
 }
 
 -- the number of the next event
 abbrev pub next_event : World → ℕ
 next_event world = length world.outcomes + 1
 
+-- the birthday of the server's store
+unfoldable pub STORE_BIRTHDAY : List ℕ
+STORE_BIRTHDAY = codes "replay"
+
+-- an entry that the server never stores: a deletion of a profile's keys
+abbrev pub is_invalid_entry : Entry Content → Bool
+is_invalid_entry entry = same_kind entry.key.kind Nigori && is_absent entry.content.value
+
 -- the server handles the request that an event made
 abbrev pub delivered : World → ℕ → EventOutcome → World
-delivered world event (Requested client entries) = record world {
-  history = committed world.history entries;
-  outcomes = Delivered event (answers_to world.history entries) ∷ world.outcomes;
+delivered world event (Requested client request) = record world {
+  history = history_served is_invalid_entry STORE_BIRTHDAY world.history request;
+  outcomes = Delivered event (reply_to is_invalid_entry STORE_BIRTHDAY world.history request) ∷ world.outcomes;
 }
 delivered world event Void = voided world
 delivered world event Done = voided world
 delivered world event (Edited client kind number) = voided world
-delivered world event (Delivered request answers) = voided world
+delivered world event (Delivered request reply) = voided world
 
 -- the request that is waited for, if any, is that of an event
 abbrev pub is_awaited : Option ℕ → ℕ → Bool
 is_awaited None request = false
 is_awaited (Some event) request = event == request
 
--- a reply to a request reaches the client that made it, if it waits for that one
-abbrev pub replied : World → ℕ → List Reply → EventOutcome → World
-replied world request answers (Requested client entries) =
-    if is_awaited (client_at world.clients client).outstanding request
-    then affected world client (answer_effect entries answers (client_at world.clients client))
+-- a reply to the request of an event reaches the client that made it, if it waits for that one
+abbrev pub replied : World → ℕ → Reply Content → EventOutcome → World
+replied world event reply (Requested client request) =
+    if is_awaited (client_at world.clients client).outstanding event
+    then affected world client (answer_effect request reply (client_at world.clients client))
     else voided world
-replied world request answers Void = voided world
-replied world request answers Done = voided world
-replied world request answers (Edited client kind number) = voided world
-replied world request answers (Delivered other others) = voided world
+replied world event reply Void = voided world
+replied world event reply Done = voided world
+replied world event reply (Edited client kind number) = voided world
+replied world event reply (Delivered other others) = voided world
 
 -- the reply that a delivery gave reaches its client
 abbrev pub answered : World → EventOutcome → World
-answered world (Delivered request answers) = replied world request answers (outcome_at world.outcomes request)
+answered world (Delivered request reply) = replied world request reply (outcome_at world.outcomes request)
 answered world Void = voided world
 answered world Done = voided world
 answered world (Edited client kind number) = voided world
-answered world (Requested client entries) = voided world
+answered world (Requested client request) = voided world
+
+-- an event of a client changes the world by what it makes of the client; no client has the number 0
+abbrev pub acted : World → ℕ → (Client → Option Effect) → World
+acted world zero event = voided world
+acted world (suc place) event = affected world (suc place) (event (client_at world.clients (suc place)))
 
 -- one event makes the next world
 unfoldable pub stepped : Setting → Event → World → World
-stepped setting (Edit client edit) world =
-    affected world client (edit_effect setting client edit (client_at world.clients client))
-stepped setting (Turn client kind) world = affected world client (turn_effect kind (client_at world.clients client))
-stepped setting (Gather client kind) world = affected world client (gather_effect kind (client_at world.clients client))
-stepped setting (Post client kind) world = affected world client (post_effect kind (client_at world.clients client))
-stepped setting (Offer client) world =
-    affected world client (offer_effect client (next_event world) (client_at world.clients client))
+stepped setting (Edit client edit) world = acted world client (change_effect setting client edit)
+stepped setting (Cut client kept edit) world = acted world client (cut_effect setting client kept edit)
+stepped setting (Turn client kind) world = acted world client (turn_effect setting kind)
+stepped setting (Gather client kind) world = acted world client (gather_effect setting kind)
+stepped setting (Post client kind) world = acted world client (post_effect setting kind)
+stepped setting (Ask client) world = acted world client (ask_effect client (next_event world))
+stepped setting (Offer client) world = acted world client (offer_effect client (next_event world))
+stepped setting (Lose client) world = acted world client lose_effect
+stepped setting (Crash client) world = acted world client crash_effect
 stepped setting (Deliver event) world = delivered world event (outcome_at world.outcomes event)
 stepped setting (Answer event) world = answered world (outcome_at world.outcomes event)
+stepped setting (SetPass client pass) world =
+    acted world client (set_pass_effect setting client (pass_at world.passes pass))
+stepped setting (GivePass client pass) world =
+    acted world client (give_pass_effect setting (pass_at world.passes pass))
 
 -- the world after some events
 unfoldable pub run : Setting → World → List Event → World
@@ -120,4 +156,4 @@ run setting world (event ∷ events) = run setting (stepped setting event world)
 
 -- the world after all events of a schedule
 abbrev pub world_of : Setting → Schedule → World
-world_of setting schedule = run setting (opening schedule.clients) schedule.events
+world_of setting schedule = run setting (opening schedule.clients schedule.passes) schedule.events

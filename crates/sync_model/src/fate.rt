@@ -1,3 +1,4 @@
+use crate::conflict::Row;
 use sync_values::Kind;
 
 /// What settled an edit.
@@ -7,6 +8,12 @@ pub enum Fate {
     Followed(u64),
     /// The server took it as the write of this version.
     Committed(u64),
+    /// The write of this version has the same value.
+    Matched(u64),
+    /// The write of this version took its place, by this row of the conflict table.
+    Taken { version: u64, row: Row },
+    /// It was merged with the write of this version, by this row of the conflict table.
+    Merged { version: u64, row: Row },
 }
 
 /// What a turn settles on its side: the edit's number, and its fate.

@@ -2,17 +2,24 @@
 //! history, the sides and clients, the world with its steps, and the report of a world.
 #![tactic(auto)]
 
+mod conflict;
 mod event;
 mod fate;
 mod laws;
 mod message;
+mod refusal;
 mod state;
 
+pub use conflict::{Choice, Decision, Resolution, Row};
 pub use event::{Event, EventOutcome, Schedule};
 pub use fate::{Fate, Note, Settlement};
 pub use laws::every_write_is_based;
-pub use message::{Ack, Answer, Content, Entry, Key, Task};
-pub use state::KeyState;
+pub use message::{
+    Ack, Answer, Batch, Call, Content, Entry, Key, Marker, Offer, Reply, Request, Task, Update,
+    Updates, Verdict,
+};
+pub use refusal::{EditRefusal, PassRefusal};
+pub use state::{KeyState, Wanted};
 pub use sync_values::{Edit, Kind, Value};
 
 #[cfg(test)]

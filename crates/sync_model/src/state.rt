@@ -17,3 +17,14 @@ pub struct KeyState {
     /// The name of the key that seals what the server has.
     pub lock: Option<Octets>,
 }
+
+/// How the entries of a type are to be sent.
+#[derive(Clone, Copy, Debug, PartialEq, Eq)]
+pub enum Wanted {
+    /// Not sealed under the default key.
+    Plain,
+    /// Sealed under the default key.
+    Under,
+    /// Not at all: the default key is missing.
+    Hold,
+}

@@ -1,44 +1,12 @@
--- What names an entity, and what an edit says of it.
-use Rattle.std.specs.Prelude.{ℕ, ◌+◌, Bool, true, false, ◌&&◌, List, [], length}
-use Rattle.std.specs.Str.{bytes_eq}
+-- What an edit says: which entity it changes, and to what.
+use Rattle.std.specs.Prelude.{ℕ, ◌+◌, List, length}
 use Rattle.client_tags.specs.declared.Kind.{Kind}
 use Rattle.client_tags.specs.declared.Kind.TheVariants.{Nigori, Preference, Password}
 use Rattle.client_tags.specs.Tags.{password_tag, nigori_tag}
-use Rattle.sync_values.specs.declared.value.NigoriValue.{NigoriValue}
-use Rattle.sync_values.specs.declared.value.Value.{Value}
-use Rattle.sync_values.specs.declared.value.Value.TheVariants.{Absent, Preference as Setting_value, Password as Login_value, Nigori as Keys_value}
 use Rattle.sync_values.specs.declared.edit.Edit.{Edit}
 use Rattle.sync_values.specs.declared.edit.Edit.TheVariants.{SetPreference, DeletePreference, SetPassword, DeletePassword, SetNigori}
-use Rattle.sync_model.specs.declared.message.Key.{Key}
-use Rattle.sync_model.specs.Text.{text_word}
-
--- What a run is given: how the tags of a type are hashed, and how a hash, the key that seals a value, and
--- the keys of a profile are shown.
-pub record Setting : Type 0 where
-  pub tag_hash : Kind → List ℕ → List ℕ
-  pub hash_text : List ℕ → List ℕ
-  pub pass_text : List ℕ → List ℕ
-  pub keys_text : NigoriValue → List ℕ
-
--- Tags stand in place of their hashes, and are shown as words. There are no keys to show yet.
-unfoldable pub names : Setting
-names = record { tag_hash = λ kind tag. tag; hash_text = text_word; pass_text = λ name. []; keys_text = λ keys. [] }
-
--- two types are one
-abbrev pub same_kind : Kind → Kind → Bool
-same_kind Nigori Nigori = true
-same_kind Nigori Preference = false
-same_kind Nigori Password = false
-same_kind Preference Nigori = false
-same_kind Preference Preference = true
-same_kind Preference Password = false
-same_kind Password Nigori = false
-same_kind Password Preference = false
-same_kind Password Password = true
-
--- two keys are one
-abbrev pub same_key : Key → Key → Bool
-same_key a b = same_kind a.kind b.kind && bytes_eq a.hash b.hash
+use Rattle.sync_values.specs.declared.value.Value.{Value}
+use Rattle.sync_values.specs.declared.value.Value.TheVariants.{Absent, Preference as Setting_value, Password as Login_value, Nigori as Keys_value}
 
 -- the type that an edit changes
 abbrev pub edit_kind : Edit → Kind
