@@ -8,10 +8,9 @@ use Rattle.std.proofs.lemmas.List.{get_or-reverse, get_or_read, length-reverse, 
 use Rattle.sync_model.specs.declared.event.EventOutcome.{EventOutcome}
 use Rattle.sync_model.specs.declared.event.EventOutcome.TheVariants.{Void, Done, Edited, Requested, Delivered}
 use Rattle.sync_model.specs.declared.message.Content.{Content}
-use Rattle.sync_model.specs.declared.message.Entry.{Entry}
+use Rattle.sync_model.specs.declared.message.Request.{Request}
 use Rattle.sync_model.specs.Worlds.{outcome_at}
-use Rattle.replay_world.specs.Outcomes.{IsOwn, request_in}
-use Rattle.replay_world.specs.Servers.{IsPreference}
+use Rattle.replay_world.specs.Outcomes.{IsOwn, IsOwnCall, request_in}
 
 apart : (a b : ℕ) → (a ≡ b → ⊥) → eqb a b ≡ false
 apart a b differ = by_told (eqb_tells a b) where
@@ -79,14 +78,14 @@ unfolding outcome_at
 own_outcome [] event own = tt
 own_outcome (outcome ∷ earlier) event own = own_by_test outcome (outcome_at earlier event) (eqb event (length earlier + 1)) own.0 (own_outcome earlier event own.1)
 
--- a request that is its own has preferences
-pub own_request : (outcome : EventOutcome) (entries : List (Entry Content)) → IsOwn outcome → request_in outcome ≡ Some entries → AllByRecursion IsPreference entries
-own_request (Requested client requested) entries own is =
-    let same : requested ≡ entries = cc in subst (λ (all : List (Entry Content)). AllByRecursion IsPreference all) same own.1
-own_request Void entries own is = cc
-own_request Done entries own is = cc
-own_request (Edited client kind number) entries own is = cc
-own_request (Delivered request answers) entries own is = cc
+-- a request that is its own is a commit of preferences
+pub own_request : (outcome : EventOutcome) (request : Request Content) → IsOwn outcome → request_in outcome ≡ Some request → IsOwnCall request.call
+own_request (Requested client requested) request own is =
+    let same : requested ≡ request = cc in subst (λ (asked : Request Content). IsOwnCall asked.call) same own.1
+own_request Void request own is = cc
+own_request Done request own is = cc
+own_request (Edited client kind number) request own is = cc
+own_request (Delivered other reply) request own is = cc
 
 newest_of_all : (outcome : EventOutcome) (earlier : List EventOutcome) → outcome_at (outcome ∷ earlier) (length (outcome ∷ earlier)) ≡ outcome
 unfolding outcome_at

@@ -1,5 +1,5 @@
 -- What the parts of a report add up to.
-use Rattle.std.proofs.Common.{◌≡◌, ℕ, zero, suc, ◌+◌, ◌<◌, arith, Bool, true, false, cond, List, [], ◌∷◌, ◌++◌, length, take, drop, get_or, Option, Some, refl, sym, ap, ◌∙◌, append_assoc, add_comm}
+use Rattle.std.proofs.Common.{◌≡◌, ℕ, zero, suc, ◌+◌, ◌<◌, arith, Bool, true, false, cond, List, [], ◌∷◌, ◌++◌, length, take, drop, get_or, map, Option, Some, None, refl, sym, ap, ◌∙◌, append_assoc, add_comm}
 use Rattle.std.proofs.lemmas.List.{append-nil, reverse-append, length-reverse, length-take-le, take_more, drop_more, drop_all}
 use Rattle.std.proofs.lemmas.List.Concat.{flat_map-append}
 use Rattle.std.proofs.lemmas.List.Sums.{sum_by_push, sum_by-cons}
@@ -7,7 +7,7 @@ use Rattle.std.specs.Prelude.{◌≤◌, count_by, find, reverse}
 use Rattle.std.specs.List.{flat_map, AllByRecursion}
 use Rattle.std.specs.Option.{option_map}
 use Rattle.client_tags.specs.declared.Kind.{Kind}
-use Rattle.client_tags.specs.declared.Kind.TheVariants.{Preference}
+use Rattle.client_tags.specs.declared.Kind.TheVariants.{Nigori, Preference, Password}
 use Rattle.sync_model.specs.declared.event.EventOutcome.{EventOutcome}
 use Rattle.sync_model.specs.declared.fate.Fate.{Fate}
 use Rattle.sync_model.specs.declared.fate.Settlement.{Settlement}
@@ -16,9 +16,13 @@ use Rattle.sync_model.specs.declared.message.Entry.{Entry}
 use Rattle.sync_model.specs.Clients as clients
 use Rattle.sync_model.specs.Fates.{is_of_edit, fate_of, edit_made, edits_made}
 use Rattle.sync_model.specs.History.{last_version}
-use Rattle.sync_model.specs.Keys.{names}
-use Rattle.sync_model.specs.Report.{entity_lines, events_line, server_line, client_line, side_line, value_lines, for_each_kind, client_lines, clients_lines, totals_line, fate_line, report}
-use Rattle.replay_world.specs.Clients.{client_of}
+use Rattle.sync_model.specs.Settings.{names}
+use Rattle.sync_model.specs.declared.message.Ack.{Ack}
+use Rattle.sync_model.specs.KeyStates.{needs_seal}
+use Rattle.sync_model.specs.Sides.{States, due_count}
+use Rattle.sync_model.specs.Offers.{reseal_count}
+use Rattle.sync_model.specs.Report.{pass_number, entity_lines, events_line, server_line, client_line, side_text, side_line, value_lines, for_each_kind, client_lines, clients_lines, totals_line, fate_line, report}
+use Rattle.replay_world.specs.Clients.{task_of, client_of}
 use Rattle.replay_world.specs.declared.client.Client.{Client}
 use Rattle.replay_world.specs.Reports.{line_if_last, fate_at, HasFates, fates_by, fates_text}
 use Rattle.replay_world.specs.Servers.{IsPreference}
@@ -46,20 +50,20 @@ length_so_far : {X : Type 0} (xs : List X) (n : ℕ) → n < length xs → n ≡
 length_so_far xs n lt = let le : n ≤ length xs = omega arith in sym (length-reverse (take n xs) ∙ length-take-le n xs le)
 
 one_more_write : (whole writes : List (Entry Content)) (n last : ℕ) (write : Entry Content) → n < length writes → write ≡ get_or writes n write → last ≡ last_version whole write.key
-    → entity_lines names whole (reverse (take n writes)) ++ line_if_last last (n + 1) write ≡ entity_lines names whole (reverse (take (n + 1) writes))
+    → entity_lines names (pass_number names []) whole (reverse (take n writes)) ++ line_if_last last (n + 1) write ≡ entity_lines names (pass_number names []) whole (reverse (take (n + 1) writes))
 unfolding entity_lines
 one_more_write whole writes n last write lt is is_last =
-    (λ i. entity_lines names whole (reverse (take n writes)) ++ line_if_last (is_last i) (length_so_far writes n lt i + 1) write)
-    ∙ ap (entity_lines names whole) (sym (newest_so_far writes n write lt is))
+    (λ i. entity_lines names (pass_number names []) whole (reverse (take n writes)) ++ line_if_last (is_last i) (length_so_far writes n lt i + 1) write)
+    ∙ ap (entity_lines names (pass_number names []) whole) (sym (newest_so_far writes n write lt is))
 
 -- one more write
 pub entities_more : (whole writes : List (Entry Content)) (n last : ℕ) (write : Entry Content) (before out new : List ℕ)
     → n < length writes → write ≡ get_or writes n write → last ≡ last_version whole write.key
-    → out ≡ before ++ entity_lines names whole (reverse (take n writes)) → new ≡ out ++ line_if_last last (n + 1) write
-    → new ≡ before ++ entity_lines names whole (reverse (take (n + 1) writes))
+    → out ≡ before ++ entity_lines names (pass_number names []) whole (reverse (take n writes)) → new ≡ out ++ line_if_last last (n + 1) write
+    → new ≡ before ++ entity_lines names (pass_number names []) whole (reverse (take (n + 1) writes))
 entities_more whole writes n last write before out new lt is is_last is_out is_new =
     is_new ∙ ap (λ text. text ++ line_if_last last (n + 1) write) is_out
-    ∙ append_assoc before (entity_lines names whole (reverse (take n writes))) (line_if_last last (n + 1) write)
+    ∙ append_assoc before (entity_lines names (pass_number names []) whole (reverse (take n writes))) (line_if_last last (n + 1) write)
     ∙ ap (λ text. before ++ text) (one_more_write whole writes n last write lt is is_last)
 
 -- each write is of a preference
@@ -119,6 +123,33 @@ pub by_table : (fates : List (ℕ × Fate)) (settlements : List Settlement) (kin
     → fates_by fates kind (edits_made 1 kind outcomes) ≡ fates_text outcomes settlements kind
 by_table fates settlements kind outcomes has = λ i. flat_map (λ number. fate_line 1 kind number (has number i)) (edits_made 1 kind outcomes)
 
+-- nothing is to be sealed anew where no key is wanted
+none_resealed : (states : States) → reseal_count None states ≡ 0
+none_resealed [] = refl
+none_resealed (key ∷ states) = sum_by-cons (λ entry. cond (needs_seal None entry.1) 1 0) key states ∙ ap (λ n. 0 + n) (none_resealed states)
+
+same_tasks : (mailbox : List (List Ack)) → length (map task_of mailbox) ≡ length mailbox
+same_tasks [] = refl
+same_tasks (acks ∷ mailbox) = ap suc (same_tasks mailbox)
+
+three_parts : (old a b c : List ℕ) → old ++ a ++ b ++ c ≡ old ++ (a ++ b ++ c)
+three_parts old a b c = simp append_assoc
+
+-- the lines of the three sides
+pub sides_are : (client : Client) (old first second third : List ℕ)
+    → first ≡ old ++ side_text 1 Nigori 0 0 0 0 0
+    → second ≡ first ++ side_text 1 Preference 0 (due_count client.preference.states.entries) 0 0 (length client.preference.mailbox.items)
+    → third ≡ second ++ side_text 1 Password 0 0 0 0 0
+    → third ≡ old ++ for_each_kind (λ kind. side_line 1 kind (clients.wanted_name names (client_of client) kind) (clients.side_of (client_of client) kind))
+sides_are client old first second third is_first is_second is_third =
+    let preference : List ℕ = side_text 1 Preference 0 (due_count client.preference.states.entries) 0 0 (length client.preference.mailbox.items) in
+    is_third
+    ∙ ap (λ text. text ++ side_text 1 Password 0 0 0 0 0) (is_second ∙ ap (λ text. text ++ preference) is_first)
+    ∙ three_parts old (side_text 1 Nigori 0 0 0 0 0) preference (side_text 1 Password 0 0 0 0 0)
+    ∙ (λ i. old ++ (side_text 1 Nigori 0 0 0 0 0
+    ++ side_text 1 Preference 0 (due_count client.preference.states.entries) (sym (none_resealed client.preference.states.entries) i) 0 (sym (same_tasks client.preference.mailbox.items) i)
+    ++ side_text 1 Password 0 0 0 0 0))
+
 -- four parts one after another
 four_parts : (old a b c d : List ℕ) → old ++ a ++ b ++ c ++ d ≡ old ++ (a ++ b ++ c ++ d)
 four_parts old a b c d = simp append_assoc
@@ -127,34 +158,34 @@ four_parts old a b c d = simp append_assoc
 pub client_lines_are : (history : List (Entry Content)) (outcomes : List EventOutcome) (client : Client) (settlements : List Settlement) (old first second third fourth : List ℕ) (version : ℕ)
     → version ≡ length history
     → first ≡ old ++ client_line version 1 (client_of client)
-    → second ≡ first ++ for_each_kind (λ kind. side_line 1 kind (clients.side_of (client_of client) kind))
-    → third ≡ second ++ value_lines names 1 Preference client.preference.states.entries
+    → second ≡ first ++ for_each_kind (λ kind. side_line 1 kind (clients.wanted_name names (client_of client) kind) (clients.side_of (client_of client) kind))
+    → third ≡ second ++ value_lines names (pass_number names []) 1 Preference client.preference.states.entries
     → fourth ≡ third ++ for_each_kind (fates_text outcomes settlements)
     → fourth ≡ old ++ client_lines names (world_with history outcomes (client_of client) settlements) 1 (client_of client)
 unfolding client_lines
 client_lines_are history outcomes client settlements old first second third fourth version is_version is_first is_second is_third is_fourth =
     is_fourth
     ∙ ap (λ text. text ++ for_each_kind (fates_text outcomes settlements)) (is_third
-    ∙ ap (λ text. text ++ value_lines names 1 Preference client.preference.states.entries) (is_second
-    ∙ ap (λ text. text ++ for_each_kind (λ kind. side_line 1 kind (clients.side_of (client_of client) kind))) (is_first
+    ∙ ap (λ text. text ++ value_lines names (pass_number names []) 1 Preference client.preference.states.entries) (is_second
+    ∙ ap (λ text. text ++ for_each_kind (λ kind. side_line 1 kind (clients.wanted_name names (client_of client) kind) (clients.side_of (client_of client) kind))) (is_first
     ∙ ap (λ n. old ++ client_line n 1 (client_of client)) is_version)))
-    ∙ four_parts old (client_line (length history) 1 (client_of client)) (for_each_kind (λ kind. side_line 1 kind (clients.side_of (client_of client) kind)))
-    (value_lines names 1 Preference client.preference.states.entries) (for_each_kind (fates_text outcomes settlements))
-    ∙ ap (λ values. old ++ (client_line (length history) 1 (client_of client) ++ for_each_kind (λ kind. side_line 1 kind (clients.side_of (client_of client) kind))
+    ∙ four_parts old (client_line (length history) 1 (client_of client)) (for_each_kind (λ kind. side_line 1 kind (clients.wanted_name names (client_of client) kind) (clients.side_of (client_of client) kind)))
+    (value_lines names (pass_number names []) 1 Preference client.preference.states.entries) (for_each_kind (fates_text outcomes settlements))
+    ∙ ap (λ values. old ++ (client_line (length history) 1 (client_of client) ++ for_each_kind (λ kind. side_line 1 kind (clients.wanted_name names (client_of client) kind) (clients.side_of (client_of client) kind))
     ++ values ++ for_each_kind (fates_text outcomes settlements)))
-    (sym (append-nil (value_lines names 1 Preference client.preference.states.entries)))
+    (sym (append-nil (value_lines names (pass_number names []) 1 Preference client.preference.states.entries)))
 
 -- the whole report
 pub report_is : (history : List (Entry Content)) (outcomes : List EventOutcome) (client : clients.Client) (settlements : List Settlement) (start first second third fourth fifth : List ℕ)
     → start ≡ []
     → first ≡ start ++ events_line outcomes
     → second ≡ first ++ server_line history
-    → third ≡ second ++ entity_lines names history history
+    → third ≡ second ++ entity_lines names (pass_number names []) history history
     → fourth ≡ third ++ client_lines names (world_with history outcomes client settlements) 1 client
     → fifth ≡ fourth ++ totals_line outcomes
     → fifth ≡ report names (world_with history outcomes client settlements)
 unfolding report clients_lines
 report_is history outcomes client settlements start first second third fourth fifth is_start is_first is_second is_third is_fourth is_fifth =
     is_fifth ∙ ap (λ text. text ++ totals_line outcomes)
-    (is_fourth ∙ (λ i. (is_third ∙ ap (λ text. text ++ entity_lines names history history) (is_second ∙ ap (λ text. text ++ server_line history) (is_first ∙ ap (λ text. text ++ events_line outcomes) is_start))) i
+    (is_fourth ∙ (λ i. (is_third ∙ ap (λ text. text ++ entity_lines names (pass_number names []) history history) (is_second ∙ ap (λ text. text ++ server_line history) (is_first ∙ ap (λ text. text ++ events_line outcomes) is_start))) i
     ++ sym (append-nil (client_lines names (world_with history outcomes client settlements) 1 client)) i))

@@ -19,7 +19,8 @@ use Rattle.sync_model.specs.declared.message.Answer.{Answer}
 use Rattle.sync_model.specs.declared.message.Answer.TheVariants.{Success, Conflict, OverQuota}
 use Rattle.sync_model.specs.declared.message.Content.{Content}
 use Rattle.sync_model.specs.declared.message.Entry.{Entry}
-use Rattle.sync_model.specs.Keys.{same_kind, same_key}
+use Rattle.sync_model.specs.Values.{same_kind, same_key}
+use Rattle.sync_model.specs.Worlds.{is_invalid_entry}
 use Rattle.sync_model.specs.History.{MAX_KEYS, LAST_VERSION, last_version, key_count, is_over_quota, answer_to, history_with, committed, answers_to}
 use Rattle.replay_world.specs.Servers.{preference_key, indexed, HasVersions, IsPreference, HasPlace, HavePlaces}
 
@@ -101,12 +102,16 @@ pub last_version_is : (index : List (List ℕ × ℕ)) (history : List (Entry Co
     → unwrap_or (indexed index entry.key.hash) 0 ≡ last_version history entry.key
 last_version_is index history entry has preference = has entry.key.hash ∙ ap (last_version history) (sym (preference_key_is entry preference))
 
+-- a preference is never invalid
+not_invalid : (entry : Entry Content) → IsPreference entry → is_invalid_entry entry ≡ false
+not_invalid entry is = rw is refl
+
 -- the answer to an entry, from what the index and the counts say
-pub answer_is : (history : List (Entry Content)) (entry : Entry Content) (last : ℕ) (same over : Bool) → last ≡ last_version history entry.key
+pub answer_is : (history : List (Entry Content)) (entry : Entry Content) (last : ℕ) (same over : Bool) → IsPreference entry → last ≡ last_version history entry.key
     → eqb entry.version last ≡ same → is_over_quota history entry ≡ over
-    → answer_to history entry ≡ cond same (cond over OverQuota (Success (length history + 1))) Conflict
+    → answer_to is_invalid_entry history entry ≡ cond same (cond over OverQuota (Success (length history + 1))) Conflict
 unfolding answer_to
-answer_is history entry last same over is_last is_same is_over = rw (← is_last, is_same, is_over) refl
+answer_is history entry last same over preference is_last is_same is_over = rw (not_invalid entry preference, ← is_last, is_same, is_over) refl
 
 -- the quota test, from the count that the server keeps
 pub over_is : (history : List (Entry Content)) (entry : Entry Content) (keys : ℕ) (over : Bool) → keys ≡ key_count history
@@ -119,18 +124,18 @@ neq-eqb a b apart = by_told (eqb_tells a b) where
   by_told (inl same) = absurd (apart same.1)
   by_told (inr other) = other.0
 
-pub conflict_answer : (history : List (Entry Content)) (entry : Entry Content) (last : ℕ) → last ≡ last_version history entry.key → (entry.version ≡ last → ⊥)
-    → Conflict ≡ answer_to history entry
-conflict_answer history entry last is_last apart = sym (answer_is history entry last false (is_over_quota history entry) is_last (neq-eqb entry.version last apart) refl)
+pub conflict_answer : (history : List (Entry Content)) (entry : Entry Content) (last : ℕ) → IsPreference entry → last ≡ last_version history entry.key → (entry.version ≡ last → ⊥)
+    → Conflict ≡ answer_to is_invalid_entry history entry
+conflict_answer history entry last preference is_last apart = sym (answer_is history entry last false (is_over_quota history entry) preference is_last (neq-eqb entry.version last apart) refl)
 
-pub quota_answer : (history : List (Entry Content)) (entry : Entry Content) (last : ℕ) → last ≡ last_version history entry.key → entry.version ≡ last
-    → is_over_quota history entry ≡ true → OverQuota ≡ answer_to history entry
-quota_answer history entry last is_last same over = sym (answer_is history entry last true true is_last (eq-eqb entry.version last same) over)
+pub quota_answer : (history : List (Entry Content)) (entry : Entry Content) (last : ℕ) → IsPreference entry → last ≡ last_version history entry.key → entry.version ≡ last
+    → is_over_quota history entry ≡ true → OverQuota ≡ answer_to is_invalid_entry history entry
+quota_answer history entry last preference is_last same over = sym (answer_is history entry last true true preference is_last (eq-eqb entry.version last same) over)
 
-pub success_answer : (history : List (Entry Content)) (entry : Entry Content) (last version : ℕ) → last ≡ last_version history entry.key → entry.version ≡ last
-    → is_over_quota history entry ≡ false → version ≡ length history → Success (version + 1) ≡ answer_to history entry
-success_answer history entry last version is_last same over is_version =
-    ap (λ n. Success (n + 1)) is_version ∙ sym (answer_is history entry last true false is_last (eq-eqb entry.version last same) over)
+pub success_answer : (history : List (Entry Content)) (entry : Entry Content) (last version : ℕ) → IsPreference entry → last ≡ last_version history entry.key → entry.version ≡ last
+    → is_over_quota history entry ≡ false → version ≡ length history → Success (version + 1) ≡ answer_to is_invalid_entry history entry
+success_answer history entry last version preference is_last same over is_version =
+    ap (λ n. Success (n + 1)) is_version ∙ sym (answer_is history entry last true false preference is_last (eq-eqb entry.version last same) over)
 
 -- the count of the keys after a write
 pub stored_keys : (history : List (Entry Content)) (entry : Entry Content) (keys last : ℕ) → keys ≡ key_count history → last ≡ last_version history entry.key
@@ -139,23 +144,23 @@ stored_keys history entry keys last is_keys is_last = rw (is_last, is_keys) refl
 
 -- one more answer, and the answers to the rest
 pub step_answers : (before pushed all : List Answer) (history next : List (Entry Content)) (entries : List (Entry Content)) (entry : Entry Content) (rest : List (Entry Content)) (answer : Answer)
-    → entries ≡ entry ∷ rest → answer ≡ answer_to history entry → next ≡ history_with history entry answer → pushed ≡ before ++ answer ∷ []
-    → before ++ answers_to history entries ≡ all → pushed ++ answers_to next rest ≡ all
+    → entries ≡ entry ∷ rest → answer ≡ answer_to is_invalid_entry history entry → next ≡ history_with history entry answer → pushed ≡ before ++ answer ∷ []
+    → before ++ answers_to is_invalid_entry history entries ≡ all → pushed ++ answers_to is_invalid_entry next rest ≡ all
 unfolding answers_to
 step_answers before pushed all history next entries entry rest answer is_entries is_answer is_next is_pushed same =
-    ap (λ answers. answers ++ answers_to next rest) is_pushed
-    ∙ append_assoc before (answer ∷ []) (answers_to next rest)
-    ∙ (λ i. before ++ is_answer i ∷ answers_to ((is_next ∙ ap (history_with history entry) is_answer) i) rest)
-    ∙ ap (λ (entries : List (Entry Content)). before ++ answers_to history entries) (sym is_entries)
+    ap (λ answers. answers ++ answers_to is_invalid_entry next rest) is_pushed
+    ∙ append_assoc before (answer ∷ []) (answers_to is_invalid_entry next rest)
+    ∙ (λ i. before ++ is_answer i ∷ answers_to is_invalid_entry ((is_next ∙ ap (history_with history entry) is_answer) i) rest)
+    ∙ ap (λ (entries : List (Entry Content)). before ++ answers_to is_invalid_entry history entries) (sym is_entries)
     ∙ same
 
 pub step_history : (all history next : List (Entry Content)) (entries : List (Entry Content)) (entry : Entry Content) (rest : List (Entry Content)) (answer : Answer)
-    → entries ≡ entry ∷ rest → answer ≡ answer_to history entry → next ≡ history_with history entry answer
-    → committed history entries ≡ all → committed next rest ≡ all
+    → entries ≡ entry ∷ rest → answer ≡ answer_to is_invalid_entry history entry → next ≡ history_with history entry answer
+    → committed is_invalid_entry history entries ≡ all → committed is_invalid_entry next rest ≡ all
 unfolding committed
 step_history all history next entries entry rest answer is_entries is_answer is_next same =
-    ap (λ after. committed after rest) (is_next ∙ ap (history_with history entry) is_answer)
-    ∙ ap (committed history) (sym is_entries)
+    ap (λ after. committed is_invalid_entry after rest) (is_next ∙ ap (history_with history entry) is_answer)
+    ∙ ap (committed is_invalid_entry history) (sym is_entries)
     ∙ same
 
 -- the places of the rest, after one entry was answered
@@ -165,17 +170,18 @@ step_places old new entries entry rest is kept places =
     let whole : HavePlaces old (entry ∷ rest) = subst (λ (all : List (Entry Content)). HavePlaces old all) is places in
     kept_places old new rest kept whole.1
 
-nil_from_drop : {A : Type 0} (xs : List A) → xs ≡ drop 1 xs → xs ≡ []
+-- nothing is left where all is as after one more was taken
+pub nil_from_drop : {A : Type 0} (xs : List A) → xs ≡ drop 1 xs → xs ≡ []
 nil_from_drop [] is = refl
 nil_from_drop (x ∷ xs) is = absurd (omega (arith, ap length is))
 
 -- no more answers
-pub end_answers : (answers all : List Answer) (history entries rest : List (Entry Content)) → entries ≡ rest → rest ≡ drop 1 entries → answers ++ answers_to history entries ≡ all → answers ≡ all
+pub end_answers : (answers all : List Answer) (history entries rest : List (Entry Content)) → entries ≡ rest → rest ≡ drop 1 entries → answers ++ answers_to is_invalid_entry history entries ≡ all → answers ≡ all
 unfolding answers_to
 end_answers answers all history entries rest same_rest dropped same =
     sym (append-nil answers) ∙ (rw (nil_from_drop entries (same_rest ∙ dropped)) at same)
 
-pub end_history : (history entries rest all : List (Entry Content)) → entries ≡ rest → rest ≡ drop 1 entries → committed history entries ≡ all → history ≡ all
+pub end_history : (history entries rest all : List (Entry Content)) → entries ≡ rest → rest ≡ drop 1 entries → committed is_invalid_entry history entries ≡ all → history ≡ all
 unfolding committed
 end_history history entries rest all same_rest dropped same = rw (nil_from_drop entries (same_rest ∙ dropped)) at same
 

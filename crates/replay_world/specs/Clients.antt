@@ -1,33 +1,64 @@
 -- What the client of a world stands for, and that an event of it has its effect.
-use Rattle.std.specs.Prelude.{◌≡◌, List, ◌++◌, map, Option, Some, None}
+use Rattle.std.specs.Prelude.{◌≡◌, ℕ, List, [], ◌++◌, map, Option, Some, None}
+use Rattle.std.specs.Option.{option_map}
 use Rattle.sync_model.specs.declared.event.EventOutcome.{EventOutcome}
 use Rattle.sync_model.specs.declared.event.EventOutcome.TheVariants.{Void}
 use Rattle.sync_model.specs.declared.fate.Settlement.{Settlement}
-use Rattle.sync_model.specs.Sides.{new_side}
+use Rattle.sync_model.specs.declared.message.Ack.{Ack}
+use Rattle.sync_model.specs.declared.message.Content.{Content}
+use Rattle.sync_model.specs.declared.message.Entry.{Entry}
+use Rattle.sync_model.specs.declared.message.Task.{Task}
+use Rattle.sync_model.specs.declared.message.Task.TheVariants.{Acks}
+use Rattle.sync_model.specs.Sides.{States, new_side}
 use Rattle.sync_model.specs.Sides as sides
 use Rattle.sync_model.specs.Clients as clients
 use Rattle.sync_model.specs.Worlds.{settlement_of}
 use Rattle.replay_world.specs.declared.client.Side.{Side}
 use Rattle.replay_world.specs.declared.client.Client.{Client}
 
--- what a side stands for; no client has a mark yet
-abbrev pub side_of : Side → sides.Side
-side_of side = record {
+-- acknowledgements as a task
+abbrev pub task_of : List Ack → Task
+task_of acks = Acks acks
+
+-- the side of a client that asks for no updates yet: it has no mark and no batch
+abbrev pub side_with : States → ℕ → List Task → Option Task → sides.Side
+side_with states last_edit mailbox letter = record {
   mark = 0;
-  states = side.states.entries;
-  last_edit = side.last_edit;
-  mailbox = side.mailbox.items;
-  letter = side.letter;
+  states = states;
+  last_edit = last_edit;
+  seen = 0;
+  mailbox = mailbox;
+  pending = None;
+  letter = letter;
 }
 
--- what a client stands for; nothing happens to its keys and logins yet
-abbrev pub client_of : Client → clients.Client
-client_of client = record {
+-- a client to whose keys and logins nothing happens yet, and which seals nothing
+abbrev pub client_with : sides.Side → Option (List ℕ) → List (Entry Content) → Option ℕ → clients.Client
+client_with preference birthday held outstanding = record {
   nigori = new_side;
-  preference = side_of client.preference;
+  preference = preference;
   password = new_side;
-  held = client.held.items;
-  outstanding = client.outstanding;
+  bag = [];
+  birthday = birthday;
+  drawn = 0;
+  held = held;
+  outstanding = outstanding;
+}
+
+-- what a side stands for
+abbrev pub side_of : Side → sides.Side
+side_of side = side_with side.states.entries side.last_edit (map task_of side.mailbox.items) (option_map task_of side.letter)
+
+-- what a client stands for
+abbrev pub client_of : Client → clients.Client
+client_of client = client_with (side_of client.preference) client.birthday client.held.items client.outstanding
+
+-- a client that has taken what a reply says of its preferences, and its birthday
+abbrev pub with_reply : clients.Client → Option Task → Option (List ℕ) → clients.Client
+with_reply client letter birthday = record client {
+  preference = record client.preference { letter = letter };
+  birthday = birthday;
+  outstanding = None;
 }
 
 -- An event of client 1 has this effect, or is void where there is none: what came of it, and the client and

@@ -4,7 +4,7 @@ use Rattle.client_tags.specs.declared.Kind.TheVariants.{Preference}
 use Rattle.sync_values.specs.declared.edit.Edit.{Edit as Change}
 use Rattle.sync_values.specs.declared.edit.Edit.TheVariants.{SetPreference, DeletePreference, SetPassword, DeletePassword, SetNigori}
 use Rattle.sync_model.specs.declared.event.Event.{Event}
-use Rattle.sync_model.specs.declared.event.Event.TheVariants.{Edit, Turn, Gather, Post, Offer, Deliver, Answer}
+use Rattle.sync_model.specs.declared.event.Event.TheVariants.{Edit, Cut, Turn, Gather, Post, Ask, Offer, Lose, Crash, Deliver, Answer, SetPass, GivePass}
 use Rattle.sync_model.specs.Report.{is_void}
 use Rattle.sync_model.specs.Worlds.{World, outcome_at}
 
@@ -25,6 +25,12 @@ CanStep (Post client kind) = (client ≡ 1) × (kind ≡ Preference)
 CanStep (Offer client) = client ≡ 1
 CanStep (Deliver event) = Unit {0}
 CanStep (Answer event) = Unit {0}
+CanStep (Cut client kept edit) = ⊥
+CanStep (Ask client) = ⊥
+CanStep (Lose client) = ⊥
+CanStep (Crash client) = ⊥
+CanStep (SetPass client pass) = ⊥
+CanStep (GivePass client pass) = ⊥
 
 -- the last event was void
 abbrev pub IsVoided : World → Type 0

@@ -6,7 +6,7 @@ use Rattle.sync_model.specs.declared.message.Content.{Content}
 use Rattle.sync_model.specs.declared.message.Entry.{Entry}
 use Rattle.sync_model.specs.Clients as clients
 use Rattle.sync_model.specs.Worlds as worlds
-use Rattle.sync_model.specs.Worlds.{delivered, answered, outcome_at, stepped}
+use Rattle.sync_model.specs.Worlds.{delivered, answered, outcome_at}
 
 -- the world of one client, with the newest write and the newest outcome first
 abbrev pub world_with : List (Entry Content) → List EventOutcome → clients.Client → List Settlement → worlds.World
@@ -15,6 +15,7 @@ world_with history outcomes client settlements = record {
   outcomes = outcomes;
   clients = client ∷ [];
   settlements = settlements;
+  passes = [];
 }
 
 -- a delivery makes this history of that one, and this outcome, whatever else the world has

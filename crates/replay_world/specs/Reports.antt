@@ -11,12 +11,12 @@ use Rattle.sync_model.specs.declared.fate.Settlement.{Settlement}
 use Rattle.sync_model.specs.declared.message.Content.{Content}
 use Rattle.sync_model.specs.declared.message.Entry.{Entry}
 use Rattle.sync_model.specs.Fates.{fate_of, edits_made}
-use Rattle.sync_model.specs.Keys.{names}
-use Rattle.sync_model.specs.Report.{entity_line, fate_line}
+use Rattle.sync_model.specs.Settings.{names}
+use Rattle.sync_model.specs.Report.{entity_line, fate_line, pass_number}
 
 -- the line of a write of this version, if its key's last version is this one
 abbrev pub line_if_last : ℕ → ℕ → Entry Content → List ℕ
-line_if_last last version write = if last == version then entity_line names version write else []
+line_if_last last version write = if last == version then entity_line names (pass_number names []) version write else []
 
 -- the fate that a table has at the number of an edit
 abbrev pub fate_at : List (ℕ × Fate) → ℕ → Option Fate

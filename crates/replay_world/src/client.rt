@@ -1,23 +1,34 @@
 //! The client of a world, and its events.
-ghost use Rattle.std.specs.Prelude.{◌≡◌, ◌+◌, ◌-◌, ◌<◌, ◌++◌, map, vec_len, vec_capacity, ◌||◌, ◌==◌, nat_le, nat_lt, [], length, is_some, option_to_list, IfOk, OnErr, OnOk};
+ghost use Rattle.std.specs.Prelude.{◌≡◌, List, ◌+◌, ◌-◌, ◌<◌, ◌≤◌, ◌++◌, not, true, false, None, map, vec_len, vec_capacity, ◌||◌, ◌==◌, nat_le, nat_lt, [], length, is_some, option_to_list, MatchOption, IfOk, OnErr, OnOk};
 ghost use Rattle.std.specs.List.{AllByRecursion};
+ghost use Rattle.std.specs.Option.{option_map, option_or};
 ghost use Rattle.client_tags.specs.declared.Kind.TheVariants.{Preference as preference_kind};
-ghost use Rattle.sync_model.specs.Clients.{new_client, holds_kind, edit_effect, turn_effect, gather_effect, post_effect, offer_effect, answer_effect, ack_for, acks_of, letter_of, follows};
-ghost use Rattle.sync_model.specs.Keys.{names, edit_tag, edit_value, edit_length};
+ghost use Rattle.sync_model.specs.declared.message.Call.TheVariants.{Commit};
+ghost use Rattle.sync_model.specs.declared.message.Verdict.TheVariants.{Committed};
+ghost use Rattle.sync_model.specs.Changes.{change_effect, follows};
+ghost use Rattle.sync_model.specs.Clients.{new_client};
+ghost use Rattle.sync_model.specs.Edits.{edit_tag, edit_value, edit_length};
+ghost use Rattle.sync_model.specs.Receiving.{turn_effect, post_effect, answer_effect, ack_for, acks_of, letter_of, is_fit, is_other_store};
+ghost use Rattle.sync_model.specs.Sending.{holds_kind, gather_effect, offer_effect, entry_of, sealed};
+ghost use Rattle.sync_model.specs.Settings.{names};
 ghost use Rattle.sync_model.specs.Sides.{is_full};
 ghost use Rattle.sync_model.specs.Worlds.{settlement_of};
-ghost use Rattle.replay_world.specs.Clients.{side_of, client_of, Happens};
+ghost use Rattle.replay_world.specs.Clients.{side_of, client_of, task_of, with_reply, Happens};
 ghost use Rattle.replay_world.specs.Events.{IsPreferenceEdit};
-ghost use Rattle.replay_world.specs.Outcomes.{KeepsOwn};
+ghost use Rattle.replay_world.specs.Outcomes.{IsOwnCall, KeepsOwn};
 ghost use Rattle.replay_world.specs.Servers.{IsPreference};
 
-use crate::due::due_entries;
-use crate::states::{States, acknowledged_values, apply_acks, copied_lock, set_own};
+use crate::due::due_offers;
+use crate::server::{differ, entries_in};
+use crate::states::{States, acknowledged_values, apply_acks, copied_octets, set_own};
 use client_tags::Kind;
 use std::alloc::Global;
 use std::collections::{BTreeMap, VecDeque};
 use std::mem;
-use sync_model::{Ack, Answer, Content, Edit, Entry, EventOutcome, Fate, Settlement, Task, Value};
+use sync_model::{
+    Ack, Answer, Call, Content, Edit, Entry, EventOutcome, Fate, Key, Offer, Reply, Request,
+    Settlement, Value, Verdict,
+};
 use wire_fields::{List, NoMemory, Octets};
 
 /// How many bytes the texts of an edit may have.
@@ -34,7 +45,7 @@ const MAX_STATES: usize = 100_000;
 pub(crate) struct Side {
     pub(crate) states: States,
     pub(crate) last_edit: u64,
-    pub(crate) mailbox: VecDeque<Task>,
+    pub(crate) mailbox: VecDeque<List<Ack>>,
     pub(crate) letter: Option<List<Ack>>,
 }
 
@@ -53,6 +64,7 @@ impl Side {
 pub(crate) struct Client {
     pub(crate) alloc: Global,
     pub(crate) preference: Side,
+    pub(crate) birthday: Option<Octets>,
     pub(crate) held: Vec<Entry<Content>>,
     pub(crate) outstanding: Option<u32>,
 }
@@ -119,11 +131,33 @@ fn settle_followed(settlements: &mut Vec<Settlement>, followed: Option<u64>, num
     }
 }
 
-fn acks_in(task: Task) -> Vec<Ack>
-    ensures { task ≡ Task.Acks result.items }
+// An offer of a preference, which nothing seals, as an entry.
+fn entry_of(offer: Offer) -> Entry<Content>
+    ensures { result ≡ entry_of preference_kind None 0 offer }
 {
-    match task {
-        Task::Acks(acks) => acks.into_vec(),
+    Entry {
+        key: Key {
+            kind: Kind::Preference,
+            hash: offer.hash,
+        },
+        version: offer.known,
+        content: Content {
+            value: offer.value,
+            number: offer.number,
+            lock: None,
+            draw: None,
+        },
+    }
+}
+
+// Puts offers of preferences to what is held, for which there is room.
+fn hold(held: &mut Vec<Entry<Content>>, offers: Vec<Offer>)
+    requires { vec_len held.old + vec_len offers ≤ vec_capacity held.old }
+    ensures { held.new.items ≡ held.old.items ++ sealed preference_kind None 0 offers.items }
+{
+    let mut offers = VecDeque::from_vec(offers);
+    'offers: while let Some(offer) = offers.pop_front() {
+        held.push_reserved(entry_of(offer));
     }
 }
 
@@ -140,12 +174,12 @@ fn ack_for(entry: &Entry<Content>, answer: Answer) -> Result<Option<Ack>, NoMemo
         version,
         value: entry.content.value.copy()?,
         number: entry.content.number,
-        lock: copied_lock(&entry.content.lock)?,
+        lock: copied_octets(&entry.content.lock)?,
     }))
 }
 
 // The acknowledgements in the answers to a commit of preferences.
-#[tactic(auto, unfolding(sync_model::specs::Clients::acks_of))]
+#[tactic(auto, unfolding(sync_model::specs::Receiving::acks_of))]
 fn acks_of(
     alloc: Global,
     mut entries: &[Entry<Content>],
@@ -169,9 +203,41 @@ fn acks_of(
 }
 
 fn letter_of(acks: List<Ack>) -> Option<List<Ack>>
-    ensures { result ≡ letter_of acks }
+    ensures { option_map task_of result ≡ letter_of acks }
 {
     if acks.is_empty() { None } else { Some(acks) }
+}
+
+// A reply is of another store than the one that the client knows.
+fn is_other_store(kept: &Option<Octets>, found: &Option<Octets>) -> bool
+    ensures { result ≡ is_other_store kept.now found.now }
+{
+    match (kept, found) {
+        (Some(kept), Some(found)) => differ(found.as_slice(), kept.as_slice()),
+        _ => false,
+    }
+}
+
+// The answers to a commit of so many entries, if a reply has as many.
+fn answers_in(verdict: &Verdict<Content>, count: usize) -> Option<&List<Answer>>
+    ensures { MatchOption result
+        ((entries : List (Entry Content)) → length entries ≡ count → is_fit (Commit entries) verdict.now ≡ false)
+        (λ answers. (verdict.now ≡ Committed answers.now) × (count ≡ length answers.now)) }
+{
+    match verdict {
+        Verdict::Committed(answers) if answers.len() == count => Some(answers),
+        _ => None,
+    }
+}
+
+// The birthday that a client knows after a reply: it keeps the first one.
+fn first_birthday(kept: &Option<Octets>, found: &Option<Octets>) -> Result<Option<Octets>, NoMemory>
+    ensures { IfOk result (λ birthday. birthday ≡ option_or kept.now found.now) }
+{
+    match kept {
+        Some(birthday) => Ok(Some(birthday.copy()?)),
+        None => copied_octets(found),
+    }
 }
 
 fn holds_preference(held: &[Entry<Content>]) -> bool
@@ -196,6 +262,7 @@ impl Client {
                 mailbox: VecDeque::new(alloc),
                 letter: None,
             },
+            birthday: None,
             held: Vec::new(alloc),
             outstanding: None,
         }
@@ -240,7 +307,7 @@ impl Client {
         settlements: &mut Vec<Settlement>,
     ) -> Result<EventOutcome, NoMemory>
         requires { IsPreferenceEdit edit.now }
-        ensures happens { IfOk result (λ outcome. Happens (edit_effect names 1 edit.now (client_of self.old)) outcome
+        ensures happens { IfOk result (λ outcome. Happens (change_effect names 1 edit.now (client_of self.old)) outcome
             (client_of self.old) (client_of self.new) settlements.old.items settlements.new.items) }
         ensures keeps { IfOk result (KeepsOwn self.old.held.items self.new.held.items) }
         ensures err { OnErr result (client_of self.new ≡ client_of self.old) }
@@ -271,23 +338,23 @@ impl Client {
         &mut self,
         settlements: &mut Vec<Settlement>,
     ) -> Result<EventOutcome, NoMemory>
-        ensures happens { IfOk result (λ outcome. Happens (turn_effect preference_kind (client_of self.old)) outcome
+        ensures happens { IfOk result (λ outcome. Happens (turn_effect names preference_kind (client_of self.old)) outcome
             (client_of self.old) (client_of self.new) settlements.old.items settlements.new.items) }
         ensures keeps { IfOk result (KeepsOwn self.old.held.items self.new.held.items) }
         ensures err { OnErr result (client_of self.new ≡ client_of self.old) }
         ensures unsettled { OnErr result (settlements.new.items ≡ settlements.old.items) }
     {
-        let Some(Task::Acks(acks)) = self.preference.mailbox.front() else {
+        let Some(acks) = self.preference.mailbox.front() else {
             return Ok(EventOutcome::Void);
         };
         let values = acknowledged_values(self.alloc, acks.as_slice())?;
         settlements.reserve(acks.len())?;
-        let Some(task) = self.preference.mailbox.pop_front() else {
+        let Some(acks) = self.preference.mailbox.pop_front() else {
             return Ok(EventOutcome::Void);
         };
         apply_acks(
             &mut self.preference.states,
-            acks_in(task),
+            acks.into_vec(),
             values,
             settlements,
         );
@@ -296,7 +363,7 @@ impl Client {
 
     /// What is due joins what is held, up to the size of a commit.
     pub(crate) fn gather(&mut self) -> Result<EventOutcome, NoMemory>
-        ensures happens { IfOk result (λ outcome. Happens (gather_effect preference_kind (client_of self.old)) outcome
+        ensures happens { IfOk result (λ outcome. Happens (gather_effect names preference_kind (client_of self.old)) outcome
             (client_of self.old) (client_of self.new) [] []) }
         ensures keeps { IfOk result (KeepsOwn self.old.held.items self.new.held.items) }
         ensures err { OnErr result (client_of self.new ≡ client_of self.old) }
@@ -305,31 +372,37 @@ impl Client {
             return Ok(EventOutcome::Void);
         }
         let room = room_beside(&self.held);
-        let mut entries = due_entries(self.alloc, &self.preference.states, room)?;
-        self.held.append(&mut entries)?;
+        let offers = due_offers(self.alloc, &self.preference.states, room)?;
+        self.held.reserve(offers.len())?;
+        hold(&mut self.held, offers);
         Ok(EventOutcome::Done)
     }
 
     /// What is held becomes a commit, which this event requests.
-    pub(crate) fn offer(&mut self, event: u32) -> EventOutcome
-        ensures happens { Happens (offer_effect 1 event (client_of self.old))
-            result (client_of self.old) (client_of self.new) [] [] }
-        ensures keeps { KeepsOwn self.old.held.items self.new.held.items result }
+    pub(crate) fn offer(&mut self, event: u32) -> Result<EventOutcome, NoMemory>
+        ensures happens { IfOk result (λ outcome. Happens (offer_effect 1 event (client_of self.old))
+            outcome (client_of self.old) (client_of self.new) [] []) }
+        ensures keeps { IfOk result (KeepsOwn self.old.held.items self.new.held.items) }
+        ensures err { OnErr result (client_of self.new ≡ client_of self.old) }
     {
         if self.cannot_offer() {
-            return EventOutcome::Void;
+            return Ok(EventOutcome::Void);
         }
+        let birthday = copied_octets(&self.birthday)?;
         let entries = mem::replace(&mut self.held, Vec::new(self.alloc));
         self.outstanding = Some(event);
-        EventOutcome::Requested {
+        Ok(EventOutcome::Requested {
             client: 1,
-            entries: List::from_vec(entries),
-        }
+            request: Request {
+                birthday,
+                call: Call::Commit(List::from_vec(entries)),
+            },
+        })
     }
 
     /// What the last reply says is mailed.
     pub(crate) fn post(&mut self) -> Result<EventOutcome, NoMemory>
-        ensures happens { IfOk result (λ outcome. Happens (post_effect preference_kind (client_of self.old)) outcome
+        ensures happens { IfOk result (λ outcome. Happens (post_effect names preference_kind (client_of self.old)) outcome
             (client_of self.old) (client_of self.new) [] []) }
         ensures keeps { IfOk result (KeepsOwn self.old.held.items self.new.held.items) }
         ensures err { OnErr result (client_of self.new ≡ client_of self.old) }
@@ -338,24 +411,53 @@ impl Client {
         let Some(acks) = self.preference.letter.take() else {
             return Ok(EventOutcome::Void);
         };
-        self.preference.mailbox.push_back_reserved(Task::Acks(acks));
+        self.preference.mailbox.push_back_reserved(acks);
         Ok(EventOutcome::Done)
     }
 
-    /// The reply to the outstanding request reaches the client: these answers, to these entries.
-    pub(crate) fn answer(
+    // The client takes the answers to a commit of preferences, and the birthday that came with them.
+    fn take_answers(
         &mut self,
         entries: &[Entry<Content>],
         answers: &[Answer],
-    ) -> Result<EventOutcome, NoMemory>
+        found: &Option<Octets>,
+    ) -> Result<(), NoMemory>
         requires { AllByRecursion IsPreference entries.now }
-        ensures happens { IfOk result (λ outcome. Happens (answer_effect entries.now answers.now (client_of self.old)) outcome
+        ensures told { OnOk result (client_of self.new ≡ with_reply (client_of self.old)
+            (letter_of (acks_of preference_kind entries.now answers.now)) (option_or self.old.birthday found.now)) }
+        ensures held { self.new.held.items ≡ self.old.held.items }
+        ensures err { OnErr result (client_of self.new ≡ client_of self.old) }
+    {
+        let birthday = first_birthday(&self.birthday, found)?;
+        let letter = letter_of(acks_of(self.alloc, entries, answers)?);
+        self.preference.letter = letter;
+        self.birthday = birthday;
+        self.outstanding = None;
+        Ok(())
+    }
+
+    /// The reply to the outstanding request reaches the client.
+    pub(crate) fn answer(
+        &mut self,
+        request: &Request<Content>,
+        reply: &Reply<Content>,
+    ) -> Result<EventOutcome, NoMemory>
+        requires { IsOwnCall request.now.call }
+        ensures happens { IfOk result (λ outcome. Happens (answer_effect request.now reply.now (client_of self.old)) outcome
             (client_of self.old) (client_of self.new) [] []) }
         ensures keeps { IfOk result (KeepsOwn self.old.held.items self.new.held.items) }
         ensures err { OnErr result (client_of self.new ≡ client_of self.old) }
     {
-        self.preference.letter = letter_of(acks_of(self.alloc, entries, answers)?);
-        self.outstanding = None;
+        if is_other_store(&self.birthday, &reply.birthday) {
+            self.outstanding = None;
+            return Ok(EventOutcome::Done);
+        }
+        let entries = entries_in(&request.call);
+        let Some(answers) = answers_in(&reply.verdict, entries.len()) else {
+            self.outstanding = None;
+            return Ok(EventOutcome::Done);
+        };
+        self.take_answers(entries.as_slice(), answers.as_slice(), &reply.birthday)?;
         Ok(EventOutcome::Done)
     }
 }

@@ -4,11 +4,9 @@ ghost use Rattle.std.specs.List.{AllByRecursion};
 ghost use Rattle.std.specs.Option.{option_copied, option_map};
 ghost use Rattle.sync_model.specs.declared.event.EventOutcome.TheVariants.{Void};
 ghost use Rattle.sync_model.specs.Worlds.{outcome_at};
-ghost use Rattle.replay_world.specs.Outcomes.{IsOwn, request_in, answers_in, request_of};
-ghost use Rattle.replay_world.specs.Servers.{IsPreference};
+ghost use Rattle.replay_world.specs.Outcomes.{IsOwn, IsOwnCall, request_in, reply_in, request_of};
 
-use sync_model::{Answer, Content, Entry, EventOutcome};
-use wire_fields::List;
+use sync_model::{Content, EventOutcome, Reply, Request};
 
 // What came of an event, if it has come.
 fn outcome_of(outcomes: &[EventOutcome], event: u32) -> Option<&EventOutcome>
@@ -23,36 +21,36 @@ fn outcome_of(outcomes: &[EventOutcome], event: u32) -> Option<&EventOutcome>
     Some(&outcomes[event as usize - 1])
 }
 
-/// The entries of the request that an event made, if it made one.
-pub(crate) fn request_made(outcomes: &[EventOutcome], event: u32) -> Option<&List<Entry<Content>>>
+/// The request that an event made, if it made one.
+pub(crate) fn request_made(outcomes: &[EventOutcome], event: u32) -> Option<&Request<Content>>
     requires { AllByRecursion IsOwn (reverse outcomes.now) }
     ensures request { option_copied result ≡ request_in (outcome_at (reverse outcomes.now) event) }
-    ensures preferences { IfSome result (λ entries. AllByRecursion IsPreference entries.now) }
+    ensures own { IfSome result (λ request. IsOwnCall request.now.call) }
 {
     match outcome_of(outcomes, event) {
-        Some(EventOutcome::Requested { entries, .. }) => Some(entries),
+        Some(EventOutcome::Requested { request, .. }) => Some(request),
         _ => None,
     }
 }
 
-/// A delivery: the request that the server handled, and its answers.
+/// A delivery: the request that the server handled, and its reply.
 #[derive(Clone, Copy)]
 pub(crate) struct Delivery<'a> {
     pub(crate) request: u32,
-    pub(crate) answers: &'a List<Answer>,
+    pub(crate) reply: &'a Reply<Content>,
 }
 
 /// The delivery that an event made, if it made one.
 pub(crate) fn delivery_made(outcomes: &[EventOutcome], event: u32) -> Option<Delivery<'_>>
-    ensures answers { option_map (λ delivery. delivery.answers.now) result
-        ≡ answers_in (outcome_at (reverse outcomes.now) event) }
+    ensures reply { option_map (λ delivery. delivery.reply.now) result
+        ≡ reply_in (outcome_at (reverse outcomes.now) event) }
     ensures request { IfSome result (λ delivery. delivery.request
         ≡ request_of (outcome_at (reverse outcomes.now) event)) }
 {
     match outcome_of(outcomes, event) {
-        Some(EventOutcome::Delivered { request, answers }) => Some(Delivery {
+        Some(EventOutcome::Delivered { request, reply }) => Some(Delivery {
             request: *request,
-            answers,
+            reply,
         }),
         _ => None,
     }

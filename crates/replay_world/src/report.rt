@@ -1,13 +1,14 @@
 //! The report of a world.
-ghost use Rattle.std.specs.Prelude.{◌≡◌, ℕ, ◌&&◌, ◌==◌, ◌++◌, if◌then◌else◌, length, reverse, count_by, Some, IfOk, OnOk};
+ghost use Rattle.std.specs.Prelude.{◌≡◌, ℕ, ◌&&◌, ◌==◌, ◌++◌, if◌then◌else◌, length, reverse, count_by, [], Some, IfOk, OnOk};
 ghost use Rattle.std.specs.List.{AllByRecursion};
 ghost use Rattle.std.specs.Option.{option_to_list};
 ghost use Rattle.client_tags.specs.declared.Kind.TheVariants.{Preference as preference_kind};
-ghost use Rattle.sync_model.specs.Clients.{side_of};
+ghost use Rattle.sync_model.specs.Clients.{side_of, wanted_name};
 ghost use Rattle.sync_model.specs.Fates.{is_of_edit, edit_made, edits_made};
-ghost use Rattle.sync_model.specs.Keys.{names, same_kind};
-ghost use Rattle.sync_model.specs.Report.{is_void, is_request, is_delivery, events_line, server_line, entity_lines, is_client_caught_up, client_line, side_line, value_lines, for_each_kind, client_lines, totals_line, report};
+ghost use Rattle.sync_model.specs.Settings.{names};
+ghost use Rattle.sync_model.specs.Report.{pass_number, is_void, is_request, is_delivery, events_line, server_line, entity_lines, is_client_caught_up, client_line, side_line, value_lines, for_each_kind, client_lines, totals_line, report};
 ghost use Rattle.sync_model.specs.Sides.{due_count};
+ghost use Rattle.sync_model.specs.Values.{same_kind};
 ghost use Rattle.replay_world.specs.Clients.{client_of};
 ghost use Rattle.replay_world.specs.Reports.{line_if_last, fate_at, HasFates, fates_by, fates_text};
 ghost use Rattle.replay_world.specs.Servers.{history_of, IsIndexed, HasVersions, IsPreference};
@@ -19,13 +20,13 @@ use crate::states::States;
 use crate::world::World;
 use client_tags::Kind;
 use report_lines::{
-    write_client_line, write_entity_line, write_events_line, write_fate_line, write_server_line,
-    write_side_line, write_totals_line, write_value_line,
+    SideCounts, write_client_line, write_entity_line, write_events_line, write_fate_line,
+    write_server_line, write_side_line, write_totals_line, write_value_line,
 };
 use std::alloc::Global;
 use std::collections::{BTreeMap, VecDeque};
-use sync_model::{Content, Entry, EventOutcome, Fate, Settlement, Task};
-use wire_fields::{NoMemory, Octets};
+use sync_model::{Ack, Content, Entry, EventOutcome, Fate, Settlement};
+use wire_fields::{List, NoMemory, Octets};
 
 /// The fates of the edits of one type, by the numbers of the edits.
 type Fates = BTreeMap<u64, Fate>;
@@ -128,7 +129,7 @@ fn write_entities(
 ) -> Result<(), NoMemory>
     requires indexed { HasVersions versions.now.entries (reverse writes.now) }
     requires preferences { AllByRecursion IsPreference writes.now }
-    ensures { OnOk result (out.new.items ≡ out.old.items ++ entity_lines names (reverse writes.now) (reverse writes.now)) }
+    ensures { OnOk result (out.new.items ≡ out.old.items ++ entity_lines names (pass_number names []) (reverse writes.now) (reverse writes.now)) }
 {
     for (place, write) in writes.iter().enumerate() {
         let last = version_at(versions, &write.key.hash);
@@ -143,7 +144,7 @@ fn due_keys(states: &States) -> usize
     states.iter().filter(|entry| entry.1.due.is_some()).count()
 }
 
-fn tasks_in(mailbox: &VecDeque<Task>) -> usize
+fn tasks_in(mailbox: &VecDeque<List<Ack>>) -> usize
     ensures { result ≡ length mailbox.now.items }
 {
     mailbox.len()
@@ -164,18 +165,45 @@ fn write_caught_up(out: &mut Vec<u8>, version: u64, client: &Client) -> Result<(
     write_client_line(out, 1, is_caught_up(version, client))
 }
 
-fn write_sides(out: &mut Vec<u8>, client: &Client) -> Result<(), NoMemory>
-    ensures { OnOk result (out.new.items ≡ out.old.items ++ for_each_kind (λ kind. side_line 1 kind (side_of (client_of client.now) kind))) }
+/// What a side counts that nothing has happened to.
+const NO_COUNTS: SideCounts = SideCounts {
+    mark: 0,
+    due: 0,
+    reseal: 0,
+    pending: 0,
+    mailbox: 0,
+};
+
+// What the side of the preferences counts. It has no mark, and nothing is sealed.
+fn counts_of(client: &Client) -> SideCounts
+    ensures { result ≡ record {
+      mark = 0;
+      due = due_count client.now.preference.states.entries;
+      reseal = 0;
+      pending = 0;
+      mailbox = length client.now.preference.mailbox.items;
+    } }
 {
-    let due = due_keys(&client.preference.states) as u64;
-    let tasks = tasks_in(&client.preference.mailbox) as u64;
-    write_side_line(out, 1, Kind::Nigori, 0, 0, 0)?;
-    write_side_line(out, 1, Kind::Preference, 0, due, tasks)?;
-    write_side_line(out, 1, Kind::Password, 0, 0, 0)
+    SideCounts {
+        mark: 0,
+        due: due_keys(&client.preference.states) as u64,
+        reseal: 0,
+        pending: 0,
+        mailbox: tasks_in(&client.preference.mailbox) as u64,
+    }
+}
+
+fn write_sides(out: &mut Vec<u8>, client: &Client) -> Result<(), NoMemory>
+    ensures { OnOk result (out.new.items ≡ out.old.items ++ for_each_kind (λ kind. side_line 1 kind
+        (wanted_name names (client_of client.now) kind) (side_of (client_of client.now) kind))) }
+{
+    write_side_line(out, 1, Kind::Nigori, NO_COUNTS)?;
+    write_side_line(out, 1, Kind::Preference, counts_of(client))?;
+    write_side_line(out, 1, Kind::Password, NO_COUNTS)
 }
 
 fn write_values(out: &mut Vec<u8>, states: &States) -> Result<(), NoMemory>
-    ensures { OnOk result (out.new.items ≡ out.old.items ++ value_lines names 1 preference_kind states.now.entries) }
+    ensures { OnOk result (out.new.items ≡ out.old.items ++ value_lines names (pass_number names []) 1 preference_kind states.now.entries) }
 {
     for (hash, state) in states.iter() {
         let kind = Kind::Preference;
@@ -338,12 +366,13 @@ mod tests {
     use super::*;
     use std::test::Fail;
     use sync_model::Schedule;
-    use wire_fields::List;
 
     #[test]
     fn report_of_an_opening(rt: HostRuntime) -> Result<(), Fail> {
         let schedule = Schedule {
             clients: 1,
+            seed: 0,
+            passes: List::new(rt.alloc()),
             events: List::new(rt.alloc()),
         };
         let world = World::new(rt.alloc(), &schedule);

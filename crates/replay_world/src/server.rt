@@ -1,17 +1,22 @@
 //! The server of a world: the list of its writes, and an index from keys to their last versions.
-ghost use Rattle.std.specs.Prelude.{◌≡◌, ℕ, true, List, ◌+◌, ◌<◌, ◌≤◌, ◌||◌, ◌&&◌, ◌==◌, ◌++◌, ◌∷◌, nat_le, is_some, unwrap_or, if◌then◌else◌, [], length, reverse, vec_len, vec_capacity, IfOk, OnOk, OnErr};
+ghost use Rattle.std.specs.Prelude.{◌≡◌, ℕ, true, not, List, ◌+◌, ◌<◌, ◌≤◌, ◌||◌, ◌&&◌, ◌==◌, ◌++◌, ◌∷◌, nat_le, is_some, unwrap_or, if◌then◌else◌, [], length, reverse, vec_len, vec_capacity, IfOk, OnOk, OnErr};
 ghost use Rattle.std.specs.BTreeMap.{is_at};
 ghost use Rattle.std.specs.Cmp.Lexicographic.{slice_cmp};
 ghost use Rattle.std.specs.List.{AllByRecursion};
 ghost use Rattle.std.specs.Map.{set_value};
 ghost use Rattle.std.specs.Ordering.{nat_cmp};
+ghost use Rattle.std.specs.Str.{bytes_eq};
+ghost use Rattle.sync_model.specs.declared.message.Call.TheVariants.{Commit};
 ghost use Rattle.sync_model.specs.History.{last_version, key_count, is_over_quota, answer_to, history_with, committed, answers_to};
+ghost use Rattle.sync_model.specs.Servers.{is_foreign, reply_to, history_served};
+ghost use Rattle.sync_model.specs.Worlds.{STORE_BIRTHDAY, is_invalid_entry};
+ghost use Rattle.replay_world.specs.Outcomes.{IsOwnCall};
 ghost use Rattle.replay_world.specs.Servers.{history_of, preference_key, indexed, HasVersions, IsIndexed, IsPreference, HasPlace, HavePlaces};
 
-use crate::states::copied_lock;
+use crate::states::copied_octets;
 use std::alloc::Global;
 use std::collections::{BTreeMap, VecDeque};
-use sync_model::{Answer, Content, Entry, Key};
+use sync_model::{Answer, Call, Content, Entry, Key, Reply, Request, Verdict};
 use wire_fields::{List, NoMemory, Octets};
 
 /// How many keys the server has room for.
@@ -19,6 +24,9 @@ const MAX_KEYS: u64 = 100_000;
 
 /// The last version that there is.
 const LAST_VERSION: u64 = (1 << 63) - 1;
+
+/// The code of a request that is for a store of another birthday.
+const NOT_MY_BIRTHDAY: u32 = 2;
 
 /// The server. Its writes are of preferences, the oldest first.
 #[derive(Drop)]
@@ -87,7 +95,8 @@ fn copied_entry(entry: &Entry<Content>) -> Result<Entry<Content>, NoMemory>
         content: Content {
             value: entry.content.value.copy()?,
             number: entry.content.number,
-            lock: copied_lock(&entry.content.lock)?,
+            lock: copied_octets(&entry.content.lock)?,
+            draw: entry.content.draw,
         },
     })
 }
@@ -119,6 +128,43 @@ fn make_places(
         make_place(versions, &entry.key.hash)?;
     }
     Ok(())
+}
+
+#[tactic(auto, unfolding(sync_model::specs::Worlds::STORE_BIRTHDAY))]
+fn store_birthday(alloc: Global) -> Result<Octets, NoMemory>
+    ensures { IfOk result (λ birthday. birthday ≡ STORE_BIRTHDAY) }
+{
+    Octets::from_slice(alloc, b"replay")
+}
+
+/// Two texts are not the same.
+pub(crate) fn differ(text: &[u8], other: &[u8]) -> bool
+    ensures { result ≡ not (bytes_eq text.now other.now) }
+{
+    text != other
+}
+
+// A birthday is known, and is another one than that of the server's store.
+#[tactic(auto, unfolding(sync_model::specs::Worlds::STORE_BIRTHDAY))]
+fn is_foreign(birthday: &Option<Octets>) -> bool
+    ensures { result ≡ is_foreign STORE_BIRTHDAY birthday.now }
+{
+    match birthday {
+        None => false,
+        Some(other) => differ(other.as_slice(), b"replay"),
+    }
+}
+
+/// The entries of a commit of preferences.
+pub(crate) fn entries_in(call: &Call<Content>) -> &List<Entry<Content>>
+    requires { IsOwnCall call.now }
+    ensures commit { call.now ≡ Commit result.now }
+    ensures preferences { AllByRecursion IsPreference result.now }
+{
+    match call {
+        Call::Commit(entries) => entries,
+        Call::Updates(_) => unreachable!(),
+    }
 }
 
 impl Server {
@@ -178,7 +224,7 @@ impl Server {
         requires preference { IsPreference entry }
         requires place { HasPlace self.old.versions.entries entry }
         requires room { vec_len self.old.writes < vec_capacity self.old.writes }
-        ensures answer { result ≡ answer_to (history_of self.old) entry }
+        ensures answer { result ≡ answer_to is_invalid_entry (history_of self.old) entry }
         ensures history { history_of self.new ≡ history_with (history_of self.old) entry result }
         ensures indexed { IsIndexed self.new }
         ensures kept { (hash : List ℕ)
@@ -218,8 +264,8 @@ impl Server {
         requires room { vec_len self.old.writes + length entries.items ≤ vec_capacity self.old.writes }
         requires answers_room { vec_len answers.old + length entries.items ≤ vec_capacity answers.old }
         ensures answers { answers.new.items
-            ≡ answers.old.items ++ answers_to (history_of self.old) entries.items }
-        ensures history { history_of self.new ≡ committed (history_of self.old) entries.items }
+            ≡ answers.old.items ++ answers_to is_invalid_entry (history_of self.old) entries.items }
+        ensures history { history_of self.new ≡ committed is_invalid_entry (history_of self.old) entries.items }
         ensures indexed { IsIndexed self.new }
     {
         'entries: while let Some(entry) = entries.pop_front() {
@@ -227,15 +273,15 @@ impl Server {
         }
     }
 
-    /// Handles a commit, in time that grows with its entries and, for each, with the logarithm of the number
-    /// of keys.
-    pub(crate) fn handle(&mut self, entries: &[Entry<Content>]) -> Result<List<Answer>, NoMemory>
+    // Takes a commit, in time that grows with its entries and, for each, with the logarithm of the number
+    // of keys.
+    fn commit(&mut self, entries: &[Entry<Content>]) -> Result<List<Answer>, NoMemory>
         requires indexed { IsIndexed self.old }
         requires preferences { AllByRecursion IsPreference entries.now }
         ensures answers { IfOk result (λ answers. answers
-            ≡ answers_to (history_of self.old) entries.now) }
+            ≡ answers_to is_invalid_entry (history_of self.old) entries.now) }
         ensures history { OnOk result (history_of self.new
-            ≡ committed (history_of self.old) entries.now) }
+            ≡ committed is_invalid_entry (history_of self.old) entries.now) }
         ensures err { OnErr result (history_of self.new ≡ history_of self.old) }
         ensures indexed { IsIndexed self.new }
     {
@@ -244,5 +290,32 @@ impl Server {
         let mut answers = Vec::with_capacity(self.alloc, entries.len())?;
         self.answer_all(copies, &mut answers);
         Ok(List::from_vec(answers))
+    }
+
+    /// Handles a request. A commit takes time that grows with its entries and, for each, with the logarithm of
+    /// the number of keys.
+    #[tactic(auto, unfolding(sync_model::specs::Servers::reply_to, sync_model::specs::Servers::history_served))]
+    pub(crate) fn handle(&mut self, request: &Request<Content>) -> Result<Reply<Content>, NoMemory>
+        requires indexed { IsIndexed self.old }
+        requires own { IsOwnCall request.now.call }
+        ensures reply { IfOk result (λ reply. reply
+            ≡ reply_to is_invalid_entry STORE_BIRTHDAY (history_of self.old) request.now) }
+        ensures history { OnOk result (history_of self.new
+            ≡ history_served is_invalid_entry STORE_BIRTHDAY (history_of self.old) request.now) }
+        ensures err { OnErr result (history_of self.new ≡ history_of self.old) }
+        ensures indexed { IsIndexed self.new }
+    {
+        let birthday = store_birthday(self.alloc)?;
+        if is_foreign(&request.birthday) {
+            return Ok(Reply {
+                birthday: Some(birthday),
+                verdict: Verdict::Refused(NOT_MY_BIRTHDAY),
+            });
+        }
+        let answers = self.commit(entries_in(&request.call).as_slice())?;
+        Ok(Reply {
+            birthday: Some(birthday),
+            verdict: Verdict::Committed(answers),
+        })
     }
 }

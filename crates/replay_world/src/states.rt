@@ -102,7 +102,7 @@ pub(crate) fn apply_acks(
     }
 }
 
-pub(crate) fn copied_lock(lock: &Option<Octets>) -> Result<Option<Octets>, NoMemory>
+pub(crate) fn copied_octets(lock: &Option<Octets>) -> Result<Option<Octets>, NoMemory>
     ensures { IfOk result (λ copy. copy ≡ lock.now) }
 {
     match lock {
@@ -117,7 +117,7 @@ fn edited_state(state: Option<&KeyState>, value: Value, number: u64) -> Result<K
         ≡ edited (unwrap_or (option_copied state.entry) new_state) value number) }
 {
     let (known, base, lock) = match state {
-        Some(state) => (state.known, state.base.copy()?, copied_lock(&state.lock)?),
+        Some(state) => (state.known, state.base.copy()?, copied_octets(&state.lock)?),
         None => (0, Value::Absent, None),
     };
     Ok(KeyState {

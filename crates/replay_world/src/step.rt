@@ -1,7 +1,7 @@
 //! What each event makes of the parts of a world.
 ghost use Rattle.std.specs.Prelude.{◌≡◌, ◌+◌, ◌-◌, ◌^◌, ◌<◌, ◌∷◌, length, reverse, OnErr, IfOk};
 ghost use Rattle.std.specs.List.{AllByRecursion};
-ghost use Rattle.sync_model.specs.Keys.{names};
+ghost use Rattle.sync_model.specs.Settings.{names};
 ghost use Rattle.sync_model.specs.Worlds.{stepped, is_awaited};
 ghost use Rattle.replay_world.specs.Clients.{client_of};
 ghost use Rattle.replay_world.specs.Events.{CanStep};
@@ -29,13 +29,13 @@ fn deliver(
     ensures indexed { IsIndexed server.new }
     ensures err { OnErr result (history_of server.new ≡ history_of server.old) }
 {
-    let Some(entries) = request_made(outcomes, event) else {
+    let Some(request) = request_made(outcomes, event) else {
         return Ok(EventOutcome::Void);
     };
-    let answers = server.handle(entries.as_slice())?;
+    let reply = server.handle(request)?;
     Ok(EventOutcome::Delivered {
         request: event,
-        answers,
+        reply,
     })
 }
 
@@ -64,13 +64,13 @@ fn receive(
     let Some(delivery) = delivery_made(outcomes, event) else {
         return Ok(EventOutcome::Void);
     };
-    let Some(entries) = request_made(outcomes, delivery.request) else {
+    let Some(request) = request_made(outcomes, delivery.request) else {
         return Ok(EventOutcome::Void);
     };
     if !awaits(client, delivery.request) {
         return Ok(EventOutcome::Void);
     }
-    client.answer(entries.as_slice(), delivery.answers.as_slice())
+    client.answer(request, delivery.reply)
 }
 
 /// What comes of the next event, with the server, the client and the settlements after it.
@@ -101,8 +101,14 @@ pub(crate) fn happen(
         Event::Turn { client: _, kind: _ } => client.turn(settlements),
         Event::Gather { client: _, kind: _ } => client.gather(),
         Event::Post { client: _, kind: _ } => client.post(),
-        Event::Offer { client: _ } => Ok(client.offer(outcomes.len() as u32 + 1)),
+        Event::Offer { client: _ } => client.offer(outcomes.len() as u32 + 1),
         Event::Deliver { event } => deliver(server, outcomes, *event),
         Event::Answer { event } => receive(client, outcomes, *event),
+        Event::Cut { .. }
+        | Event::Ask { .. }
+        | Event::Lose { .. }
+        | Event::Crash { .. }
+        | Event::SetPass { .. }
+        | Event::GivePass { .. } => unreachable!(),
     }
 }

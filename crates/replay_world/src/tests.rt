@@ -28,6 +28,8 @@ fn a_commit_that_is_delivered_twice_is_stored_once(rt: HostRuntime) -> Result<()
         alloc,
         &Schedule {
             clients: 1,
+            seed: 0,
+            passes: List::new(alloc),
             events: List::new(alloc),
         },
     );

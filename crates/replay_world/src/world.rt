@@ -1,6 +1,6 @@
 //! The world of a schedule: the server, what came of each event, the client, and the settled edits.
-ghost use Rattle.std.specs.Prelude.{◌≡◌, ◌+◌, ◌-◌, ◌^◌, ◌<◌, ◌↔◌, IsTrue, length, OnOk, OnErr, IfOk};
-ghost use Rattle.sync_model.specs.Keys.{names};
+ghost use Rattle.std.specs.Prelude.{◌≡◌, ◌+◌, ◌-◌, ◌^◌, ◌<◌, ◌↔◌, IsTrue, [], length, OnOk, OnErr, IfOk};
+ghost use Rattle.sync_model.specs.Settings.{names};
 ghost use Rattle.sync_model.specs.Report.{is_void};
 ghost use Rattle.sync_model.specs.Worlds.{opening, stepped};
 ghost use Rattle.replay_world.specs.Events.{CanStep, IsVoided};
@@ -55,7 +55,8 @@ impl World {
     /// The world before any event of a schedule. It takes no memory.
     pub fn new(alloc: Global, schedule: &Schedule) -> World
         requires one_client { schedule.now.clients ≡ 1 }
-        ensures { result ≡ opening schedule.now.clients }
+        requires no_passes { schedule.now.passes ≡ [] }
+        ensures { result ≡ opening schedule.now.clients schedule.now.passes }
     {
         let _ = schedule;
         World {

@@ -1,6 +1,6 @@
 //! The lines of a report, each written at the end of a text.
 //!
-//! Tags stand in place of their hashes, and no keys are shown, as the setting `names` says. After an
+//! Tags stand in place of their hashes, and there are no passphrases, as the setting `names` says. After an
 //! `Err` a text may end in a part of what was to be added; what stood there before still stands.
 #![tactic(auto)]
 
@@ -10,8 +10,8 @@ mod values;
 mod words;
 
 pub use lines::{
-    write_client_line, write_entity_line, write_events_line, write_fate_line, write_server_line,
-    write_side_line, write_totals_line, write_value_line,
+    SideCounts, write_client_line, write_entity_line, write_events_line, write_fate_line,
+    write_server_line, write_side_line, write_totals_line, write_value_line,
 };
 pub use values::{write_lock, write_value};
 pub use words::{write_kind, write_number, write_word};

@@ -1,14 +1,14 @@
 ghost use Rattle.std.specs.Prelude.{◌≡◌, [], ◌∷◌, ◌++◌, OnOk, OnErr};
 ghost use Rattle.std.specs.Fmt.{decimal};
 ghost use Rattle.sync_model.specs.Text.{kind_word};
-ghost use Rattle.sync_model.specs.Keys.{names};
-ghost use Rattle.sync_model.specs.Report.{value_text, events_text, server_text, entity_line, client_text, side_text, value_line_text, fate_text, fate_line, totals_text};
+ghost use Rattle.sync_model.specs.Settings.{names};
+ghost use Rattle.sync_model.specs.Report.{pass_number, row_word, lock_text, value_text, events_text, server_text, entity_line, client_text, side_text, value_line_text, fate_text, fate_line, totals_text};
 ghost use Rattle.report_lines.specs.Continued.{Continues};
 
 use crate::pieces::{Piece, write_pieces};
-use crate::values::{lock_name, write_value};
+use crate::values::{write_lock, write_value};
 use crate::words::{kind_name, write_text};
-use sync_model::{Content, Entry, Fate, Kind, Value};
+use sync_model::{Content, Entry, Fate, Kind, Row, Value};
 use wire_fields::NoMemory;
 
 /// What the lines of a client's type begin with.
@@ -31,7 +31,7 @@ fn write_owner(out: &mut Vec<u8>, subject: &[u8], client: u32, kind: Kind) -> Re
 /// A value as the last words of a line, and the line's end.
 #[tactic(auto, using(crate::proofs::Continuing::continues_after))]
 fn write_last_value(out: &mut Vec<u8>, value: &Value) -> Result<(), NoMemory>
-    ensures ok { OnOk result (out.new.items ≡ out.old.items ++ 32 ∷ value_text names value.now ++ 10 ∷ []) }
+    ensures ok { OnOk result (out.new.items ≡ out.old.items ++ 32 ∷ value_text names (pass_number names []) value.now ++ 10 ∷ []) }
     ensures err { OnErr result (Continues out.old.items out.new.items) }
 {
     write_text(out, b" ")?;
@@ -76,13 +76,13 @@ pub fn write_server_line(out: &mut Vec<u8>, version: u64, keys: u64) -> Result<(
 }
 
 /// A write of this version, in time linear in its texts.
-#[tactic(auto, using(crate::proofs::Continuing::continues_after), unfolding(sync_model::specs::Report::entity_line, sync_model::specs::Keys::names))]
+#[tactic(auto, using(crate::proofs::Continuing::continues_after), unfolding(sync_model::specs::Report::entity_line, sync_model::specs::Settings::names))]
 pub fn write_entity_line(
     out: &mut Vec<u8>,
     version: u64,
     write: &Entry<Content>,
 ) -> Result<(), NoMemory>
-    ensures ok { OnOk result (out.new.items ≡ out.old.items ++ entity_line names version write.now) }
+    ensures ok { OnOk result (out.new.items ≡ out.old.items ++ entity_line names (pass_number names []) version write.now) }
     ensures err { OnErr result (Continues out.old.items out.new.items) }
 {
     write_pieces(
@@ -95,9 +95,9 @@ pub fn write_entity_line(
             Piece::Text(b" "),
             Piece::Word(write.key.hash.as_slice()),
             Piece::Text(b" "),
-            Piece::Text(lock_name(&write.content.lock)),
         ],
     )?;
+    write_lock(out, &write.content.lock)?;
     write_last_value(out, &write.content.value)
 }
 
@@ -119,17 +119,31 @@ pub fn write_client_line(out: &mut Vec<u8>, number: u32, caught_up: bool) -> Res
     )
 }
 
-/// The mark of a client's side of a type, how many keys are due, and how many tasks wait.
+/// What a client's side of a type counts.
+#[derive(Clone, Copy, Debug, PartialEq, Eq)]
+pub struct SideCounts {
+    /// The version up to which it has all writes.
+    pub mark: u64,
+    /// How many keys are due.
+    pub due: u64,
+    /// How many keys are to be sealed anew.
+    pub reseal: u64,
+    /// How many updates wait for a key.
+    pub pending: u64,
+    /// How many tasks wait for a turn.
+    pub mailbox: u64,
+}
+
+/// What a client's side of a type counts.
 #[tactic(auto, using(crate::proofs::Continuing::continues_after), unfolding(sync_model::specs::Report::side_text))]
 pub fn write_side_line(
     out: &mut Vec<u8>,
     number: u32,
     kind: Kind,
-    mark: u64,
-    due: u64,
-    mailbox: u64,
+    counts: SideCounts,
 ) -> Result<(), NoMemory>
-    ensures ok { OnOk result (out.new.items ≡ out.old.items ++ side_text number kind mark due mailbox) }
+    ensures ok { OnOk result (out.new.items ≡ out.old.items
+        ++ side_text number kind counts.mark counts.due counts.reseal counts.pending counts.mailbox) }
     ensures err { OnErr result (Continues out.old.items out.new.items) }
 {
     write_owner(out, b"side ", number, kind)?;
@@ -137,11 +151,20 @@ pub fn write_side_line(
         out,
         &[
             Piece::Text(b" mark "),
-            Piece::Number(mark),
+            Piece::Number(counts.mark),
             Piece::Text(b" due "),
-            Piece::Number(due),
-            Piece::Text(b" reseal 0 pending 0 mailbox "),
-            Piece::Number(mailbox),
+            Piece::Number(counts.due),
+            Piece::Text(b" reseal "),
+            Piece::Number(counts.reseal),
+        ],
+    )?;
+    write_pieces(
+        out,
+        &[
+            Piece::Text(b" pending "),
+            Piece::Number(counts.pending),
+            Piece::Text(b" mailbox "),
+            Piece::Number(counts.mailbox),
             Piece::Text(b"\n"),
         ],
     )
@@ -149,7 +172,7 @@ pub fn write_side_line(
 
 /// What a client has of a key: the version that it knows, and its value. It takes time linear in the
 /// texts.
-#[tactic(auto, using(crate::proofs::Continuing::continues_after), unfolding(sync_model::specs::Report::value_line_text, sync_model::specs::Keys::names))]
+#[tactic(auto, using(crate::proofs::Continuing::continues_after), unfolding(sync_model::specs::Report::value_line_text, sync_model::specs::Settings::names))]
 pub fn write_value_line(
     out: &mut Vec<u8>,
     number: u32,
@@ -159,7 +182,7 @@ pub fn write_value_line(
     own: &Value,
 ) -> Result<(), NoMemory>
     ensures ok { OnOk result (out.new.items ≡
-        out.old.items ++ value_line_text names number kind hash.now known own.now) }
+        out.old.items ++ value_line_text names (pass_number names []) number kind hash.now known own.now) }
     ensures err { OnErr result (Continues out.old.items out.new.items) }
 {
     write_owner(out, b"value ", number, kind)?;
@@ -175,6 +198,37 @@ pub fn write_value_line(
     write_last_value(out, own)
 }
 
+// The name of a row of the conflict table.
+#[tactic(auto, unfolding(sync_model::specs::Report::row_word))]
+fn row_name(row: Row) -> &'static [u8]
+    ensures { result.now ≡ row_word row }
+{
+    match row {
+        Row::C1 => b"C1",
+        Row::C2 => b"C2",
+        Row::C3 => b"C3",
+        Row::C4 => b"C4",
+        Row::C5 => b"C5",
+        Row::C6 => b"C6",
+    }
+}
+
+// What became of an edit by a write of this version and a row of the conflict table.
+fn write_settled(out: &mut Vec<u8>, verb: &[u8], version: u64, row: Row) -> Result<(), NoMemory>
+    ensures ok { OnOk result (out.new.items ≡ out.old.items ++ verb.now ++ decimal version ++ 32 ∷ row_word row) }
+    ensures err { OnErr result (Continues out.old.items out.new.items) }
+{
+    write_pieces(
+        out,
+        &[
+            Piece::Text(verb),
+            Piece::Number(version),
+            Piece::Text(b" "),
+            Piece::Text(row_name(row)),
+        ],
+    )
+}
+
 #[tactic(auto, unfolding(sync_model::specs::Report::fate_text))]
 fn write_fate(out: &mut Vec<u8>, fate: Option<Fate>) -> Result<(), NoMemory>
     ensures ok { OnOk result (out.new.items ≡ out.old.items ++ fate_text fate) }
@@ -188,6 +242,11 @@ fn write_fate(out: &mut Vec<u8>, fate: Option<Fate>) -> Result<(), NoMemory>
         Some(Fate::Committed(version)) => {
             write_pieces(out, &[Piece::Text(b"committed "), Piece::Number(version)])
         }
+        Some(Fate::Matched(version)) => {
+            write_pieces(out, &[Piece::Text(b"matched "), Piece::Number(version)])
+        }
+        Some(Fate::Taken { version, row }) => write_settled(out, b"taken ", version, row),
+        Some(Fate::Merged { version, row }) => write_settled(out, b"merged ", version, row),
     }
 }
 

@@ -1,7 +1,7 @@
 use super::*;
 use std::alloc::Global;
 use std::test::Fail;
-use sync_model::{Content, Entry, Fate, Key, Kind, Value};
+use sync_model::{Content, Entry, Fate, Key, Kind, Row, Value};
 use sync_values::{Password, Preference};
 use wire_fields::{NoMemory, Octets};
 
@@ -32,12 +32,19 @@ fn lines_of_numbers(rt: HostRuntime) -> Result<(), Fail> {
     write_server_line(&mut out, 1, 1)?;
     write_client_line(&mut out, 1, false)?;
     write_client_line(&mut out, 2, true)?;
-    write_side_line(&mut out, 1, Kind::Nigori, 0, 0, 0)?;
+    let counts = SideCounts {
+        mark: 1,
+        due: 2,
+        reseal: 3,
+        pending: 4,
+        mailbox: 5,
+    };
+    write_side_line(&mut out, 1, Kind::Nigori, counts)?;
     write_totals_line(&mut out, 1, 2)?;
     assert_eq!(rt;
         out.as_slice(),
         b"events 8 void 0\nserver version 1 keys 1\nclient 1 behind\nclient 2 caught-up\n\
-          side 1 nigori mark 0 due 0 reseal 0 pending 0 mailbox 0\nrequests 1 deliveries 2\n"
+          side 1 nigori mark 1 due 2 reseal 3 pending 4 mailbox 5\nrequests 1 deliveries 2\n"
             .as_slice()
     );
     Ok(())
@@ -49,10 +56,17 @@ fn lines_of_fates(rt: HostRuntime) -> Result<(), Fail> {
     write_fate_line(&mut out, 1, Kind::Preference, 1, Some(Fate::Committed(1)))?;
     write_fate_line(&mut out, 1, Kind::Preference, 1, None)?;
     write_fate_line(&mut out, 1, Kind::Preference, 3, Some(Fate::Followed(4)))?;
+    write_fate_line(&mut out, 1, Kind::Preference, 4, Some(Fate::Matched(2)))?;
+    let (version, row) = (1, Row::C6);
+    let taken = Fate::Taken { version, row };
+    write_fate_line(&mut out, 2, Kind::Nigori, 1, Some(taken))?;
+    let merged = Fate::Merged { version, row };
+    write_fate_line(&mut out, 2, Kind::Preference, 1, Some(merged))?;
     assert_eq!(rt;
         out.as_slice(),
         b"fate 1 preference 1 committed 1\nfate 1 preference 1 stands\n\
-          fate 1 preference 3 followed 4\n"
+          fate 1 preference 3 followed 4\nfate 1 preference 4 matched 2\n\
+          fate 2 nigori 1 taken 1 C6\nfate 2 preference 1 merged 1 C6\n"
             .as_slice()
     );
     Ok(())
@@ -77,6 +91,7 @@ fn lines_of_values(rt: HostRuntime) -> Result<(), Fail> {
             value: preference(rt.alloc())?,
             number: 1,
             lock: None,
+            draw: None,
         },
     };
     let mut out = Vec::new(rt.alloc());

@@ -1,12 +1,12 @@
-ghost use Rattle.std.specs.Prelude.{◌≡◌, ◌++◌, OnOk, OnErr};
-ghost use Rattle.sync_model.specs.Keys.{names};
-ghost use Rattle.sync_model.specs.Report.{preference_text, password_text, value_text, lock_text};
+ghost use Rattle.std.specs.Prelude.{◌≡◌, [], ◌++◌, OnOk, OnErr};
+ghost use Rattle.sync_model.specs.Settings.{names};
+ghost use Rattle.sync_model.specs.Report.{preference_text, password_text, pass_number, key_text, key_numbers, nigori_text, value_text, lock_text};
 ghost use Rattle.report_lines.specs.Continued.{Continues};
 
 use crate::pieces::{Piece, write_pieces};
 use crate::words::write_text;
 use sync_model::Value;
-use sync_values::{Password, Preference};
+use sync_values::{NigoriKey, NigoriValue, Password, Preference};
 use wire_fields::{NoMemory, Octets};
 
 fn write_preference(out: &mut Vec<u8>, preference: &Preference) -> Result<(), NoMemory>
@@ -47,36 +47,66 @@ fn write_password(out: &mut Vec<u8>, password: &Password) -> Result<(), NoMemory
     )
 }
 
+// The number of a key. No passphrase is known, so it is 0.
+#[tactic(auto, unfolding(sync_model::specs::Report::key_text))]
+fn write_key(out: &mut Vec<u8>, key: &NigoriKey) -> Result<(), NoMemory>
+    ensures ok { OnOk result (out.new.items ≡ out.old.items ++ key_text names (pass_number names []) key.now) }
+    ensures err { OnErr result (Continues out.old.items out.new.items) }
+{
+    let _ = key;
+    write_pieces(out, &[Piece::Text(b" "), Piece::Number(0)])
+}
+
+#[tactic(auto, using(crate::proofs::Continuing::continues_after))]
+fn write_keys(out: &mut Vec<u8>, keys: &[NigoriKey]) -> Result<(), NoMemory>
+    ensures ok { OnOk result (out.new.items ≡ out.old.items ++ key_numbers names (pass_number names []) keys.now) }
+    ensures err { OnErr result (Continues out.old.items out.new.items) }
+{
+    for key in keys {
+        write_key(out, key)?;
+    }
+    Ok(())
+}
+
+#[tactic(auto, using(crate::proofs::Continuing::continues_after), unfolding(sync_model::specs::Report::nigori_text))]
+fn write_nigori(out: &mut Vec<u8>, nigori: &NigoriValue) -> Result<(), NoMemory>
+    ensures ok { OnOk result (out.new.items ≡ out.old.items ++ nigori_text names (pass_number names []) nigori.now) }
+    ensures err { OnErr result (Continues out.old.items out.new.items) }
+{
+    write_pieces(
+        out,
+        &[
+            Piece::Text(b"lock "),
+            Piece::Number(0),
+            Piece::Text(b" keys"),
+        ],
+    )?;
+    write_keys(out, nigori.keys.as_slice())
+}
+
 /// A value as the words of a line, in time linear in its texts: `absent`, a preference's name and value,
-/// or the seven words of a login. The keys of a profile are not shown.
-#[tactic(auto, unfolding(sync_model::specs::Report::value_text, sync_model::specs::Keys::names))]
+/// the seven words of a login, or the numbers of a profile's keys, which are 0.
+#[tactic(auto, unfolding(sync_model::specs::Report::value_text, sync_model::specs::Settings::names))]
 pub fn write_value(out: &mut Vec<u8>, value: &Value) -> Result<(), NoMemory>
-    ensures ok { OnOk result (out.new.items ≡ out.old.items ++ value_text names value.now) }
+    ensures ok { OnOk result (out.new.items ≡ out.old.items ++ value_text names (pass_number names []) value.now) }
     ensures err { OnErr result (Continues out.old.items out.new.items) }
 {
     match value {
         Value::Absent => write_text(out, b"absent"),
         Value::Preference(preference) => write_preference(out, preference),
         Value::Password(password) => write_password(out, password),
-        Value::Nigori(_) => Ok(()),
+        Value::Nigori(nigori) => write_nigori(out, nigori),
     }
 }
 
-/// What seals a write, without the name of the key.
-#[tactic(auto, unfolding(sync_model::specs::Report::lock_text, sync_model::specs::Keys::names))]
-pub fn lock_name(lock: &Option<Octets>) -> &'static [u8]
-    ensures { result.now ≡ lock_text names lock.now }
-{
-    match lock {
-        None => b"plain",
-        Some(_) => b"pass ",
-    }
-}
-
-/// What seals a write. The name of the key is not shown.
+/// What seals a write. No passphrase is known, so a key has the number 0.
+#[tactic(auto, unfolding(sync_model::specs::Report::lock_text))]
 pub fn write_lock(out: &mut Vec<u8>, lock: &Option<Octets>) -> Result<(), NoMemory>
-    ensures ok { OnOk result (out.new.items ≡ out.old.items ++ lock_text names lock.now) }
+    ensures ok { OnOk result (out.new.items ≡ out.old.items ++ lock_text (pass_number names []) lock.now) }
     ensures err { OnErr result (Continues out.old.items out.new.items) }
 {
-    write_text(out, lock_name(lock))
+    match lock {
+        None => write_text(out, b"plain"),
+        Some(_) => write_pieces(out, &[Piece::Text(b"pass "), Piece::Number(0)]),
+    }
 }

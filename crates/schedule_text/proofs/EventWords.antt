@@ -8,7 +8,7 @@ use Rattle.sync_values.specs.declared.edit.Edit.{Edit as Change}
 use Rattle.sync_values.specs.declared.edit.Edit.TheVariants.{SetPreference, DeletePreference, SetPassword, DeletePassword, SetNigori}
 use Rattle.sync_values.specs.declared.value.Preference.{Preference as Pref}
 use Rattle.sync_model.specs.declared.event.Event.{Event}
-use Rattle.sync_model.specs.declared.event.Event.TheVariants.{Edit, Turn, Gather, Post, Offer, Deliver, Answer}
+use Rattle.sync_model.specs.declared.event.Event.TheVariants.{Edit, Cut, Turn, Gather, Post, Ask, Offer, Lose, Crash, Deliver, Answer, SetPass, GivePass}
 use Rattle.sync_model.specs.Text.{text_word, kind_word}
 use Rattle.sync_model.specs.Report.{preference_text}
 use Rattle.schedule_text.specs.Lines.{change_words, event_words}
@@ -62,6 +62,12 @@ no_turn line gather offer post turn (Offer client) known is = offer (is ∙ ap (
 no_turn line gather offer post turn (Edit client edit) known is = known
 no_turn line gather offer post turn (Deliver event) known is = known
 no_turn line gather offer post turn (Answer event) known is = known
+no_turn line gather offer post turn (Cut client kept edit) known is = known
+no_turn line gather offer post turn (Ask client) known is = known
+no_turn line gather offer post turn (Lose client) known is = known
+no_turn line gather offer post turn (Crash client) known is = known
+no_turn line gather offer post turn (SetPass client pass) known is = known
+no_turn line gather offer post turn (GivePass client pass) known is = known
 
 -- a line that delivers nothing, answers nothing and has no fixed words
 no_step : (line : List ℕ) → ((n : ℕ) → IsEventNumber n → line ≢ codes "deliver " ++ decimal n) → ((n : ℕ) → IsEventNumber n → line ≢ codes "answer " ++ decimal n) → ((event : Event) → IsTurn event → line ≢ event_words event) → (event : Event) → IsStep event → line ≢ event_words event
@@ -72,6 +78,12 @@ no_step line deliver answer turn (Offer client) known is = turn (Offer client) k
 no_step line deliver answer turn (Edit client edit) known is = known
 no_step line deliver answer turn (Deliver event) known is = deliver event known (is ∙ deliver_words event)
 no_step line deliver answer turn (Answer event) known is = answer event known (is ∙ answer_words event)
+no_step line deliver answer turn (Cut client kept edit) known is = known
+no_step line deliver answer turn (Ask client) known is = known
+no_step line deliver answer turn (Lose client) known is = known
+no_step line deliver answer turn (Crash client) known is = known
+no_step line deliver answer turn (SetPass client pass) known is = known
+no_step line deliver answer turn (GivePass client pass) known is = known
 
 no_edit : (line : List ℕ) → ((p : Pref) → IsPreference p → line ≢ codes "edit 1 set preference " ++ preference_text p) → ((name : List ℕ) → AreBytes name → line ≢ codes "edit 1 del preference " ++ text_word name) → (edit : Change) → IsKnown (Edit 1 edit) → line ≢ event_words (Edit 1 edit)
 no_edit line set delete (SetPreference p) known is = set p (record { name_is = known.1.0; value_is = known.1.1 }) (is ∙ set_words p)
@@ -89,6 +101,12 @@ no_event line set delete step (Turn client kind) known is = step (Turn client ki
 no_event line set delete step (Offer client) known is = step (Offer client) known is
 no_event line set delete step (Deliver event) known is = step (Deliver event) known is
 no_event line set delete step (Answer event) known is = step (Answer event) known is
+no_event line set delete step (Cut client kept edit) known is = known
+no_event line set delete step (Ask client) known is = known
+no_event line set delete step (Lose client) known is = known
+no_event line set delete step (Crash client) known is = known
+no_event line set delete step (SetPass client pass) known is = known
+no_event line set delete step (GivePass client pass) known is = known
 
 step_is_known : (event : Event) → IsStep event → IsKnown event
 step_is_known (Edit client edit) known = absurd known
@@ -98,6 +116,12 @@ step_is_known (Turn client kind) known = known
 step_is_known (Offer client) known = known
 step_is_known (Deliver event) known = known
 step_is_known (Answer event) known = known
+step_is_known (Cut client kept edit) known = known
+step_is_known (Ask client) known = known
+step_is_known (Lose client) known = known
+step_is_known (Crash client) known = known
+step_is_known (SetPass client pass) known = known
+step_is_known (GivePass client pass) known = known
 
 turn_is_step : (event : Event) → IsTurn event → IsStep event
 turn_is_step (Edit client edit) known = known
@@ -107,6 +131,12 @@ turn_is_step (Turn client kind) known = known
 turn_is_step (Offer client) known = known
 turn_is_step (Deliver event) known = absurd known
 turn_is_step (Answer event) known = absurd known
+turn_is_step (Cut client kept edit) known = known
+turn_is_step (Ask client) known = known
+turn_is_step (Lose client) known = known
+turn_is_step (Crash client) known = known
+turn_is_step (SetPass client pass) known = known
+turn_is_step (GivePass client pass) known = known
 
 -- what is read where a line delivers nothing and answers nothing
 pub reads_step : (line : List ℕ) (found : Option Event) → ((n : ℕ) → IsEventNumber n → line ≢ codes "deliver " ++ decimal n) → ((n : ℕ) → IsEventNumber n → line ≢ codes "answer " ++ decimal n) → Reads IsTurn event_words line found → Reads IsStep event_words line found

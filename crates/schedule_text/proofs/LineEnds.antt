@@ -7,7 +7,7 @@ use Rattle.sync_values.specs.declared.edit.Edit.{Edit as Change}
 use Rattle.sync_values.specs.declared.edit.Edit.TheVariants.{SetPreference, DeletePreference, SetPassword, DeletePassword, SetNigori}
 use Rattle.sync_values.specs.declared.value.Preference.{Preference as Pref}
 use Rattle.sync_model.specs.declared.event.Event.{Event}
-use Rattle.sync_model.specs.declared.event.Event.TheVariants.{Edit, Turn, Gather, Post, Offer, Deliver, Answer}
+use Rattle.sync_model.specs.declared.event.Event.TheVariants.{Edit, Cut, Turn, Gather, Post, Ask, Offer, Lose, Crash, Deliver, Answer, SetPass, GivePass}
 use Rattle.sync_model.specs.Text.{text_word}
 use Rattle.sync_model.specs.Report.{preference_text}
 use Rattle.schedule_text.specs.Lines.{clients_words, event_words}
@@ -75,6 +75,12 @@ no_end_in_event (Deliver event) known =
     subst HasNoEnd (sym (deliver_words event)) (HasNoEnd-append (codes "deliver ") (decimal event) (HasNoEnd-from_test (codes "deliver ") refl) (no_end_in_number event known.1))
 no_end_in_event (Answer event) known =
     subst HasNoEnd (sym (answer_words event)) (HasNoEnd-append (codes "answer ") (decimal event) (HasNoEnd-from_test (codes "answer ") refl) (no_end_in_number event known.1))
+no_end_in_event (Cut client kept edit) known = elim known [ ]
+no_end_in_event (Ask client) known = elim known [ ]
+no_end_in_event (Lose client) known = elim known [ ]
+no_end_in_event (Crash client) known = elim known [ ]
+no_end_in_event (SetPass client pass) known = elim known [ ]
+no_end_in_event (GivePass client pass) known = elim known [ ]
 
 pub clients_is : clients_words 1 ≡ codes "clients 1"
 clients_is = ap (λ (d : List ℕ). codes "clients " ++ d) (decimal_digit 1 (omega arith))

@@ -8,7 +8,7 @@ use Rattle.sync_values.specs.declared.edit.Edit.{Edit as Change}
 use Rattle.sync_values.specs.declared.edit.Edit.TheVariants.{SetPreference, DeletePreference, SetPassword, DeletePassword, SetNigori}
 use Rattle.sync_values.specs.declared.value.Preference.{Preference as Pref}
 use Rattle.sync_model.specs.declared.event.Event.{Event}
-use Rattle.sync_model.specs.declared.event.Event.TheVariants.{Edit, Turn, Gather, Post, Offer, Deliver, Answer}
+use Rattle.sync_model.specs.declared.event.Event.TheVariants.{Edit, Cut, Turn, Gather, Post, Ask, Offer, Lose, Crash, Deliver, Answer, SetPass, GivePass}
 use Rattle.sync_model.specs.Text.{text_word}
 use Rattle.sync_model.specs.Report.{preference_text}
 use Rattle.schedule_text.specs.Lines.{event_words}
@@ -27,6 +27,12 @@ letter (Post client kind) = 112
 letter (Offer client) = 111
 letter (Deliver event) = 100
 letter (Answer event) = 97
+letter (Cut client kept edit) = 99
+letter (Ask client) = 97
+letter (Lose client) = 108
+letter (Crash client) = 99
+letter (SetPass client pass) = 115
+letter (GivePass client pass) = 103
 
 letter_is : (event : Event) → get_or (event_words event) 0 0 ≡ letter event
 unfolding letter event_words
@@ -37,6 +43,12 @@ letter_is (Post client kind) = refl
 letter_is (Offer client) = refl
 letter_is (Deliver event) = refl
 letter_is (Answer event) = refl
+letter_is (Cut client kept edit) = refl
+letter_is (Ask client) = refl
+letter_is (Lose client) = refl
+letter_is (Crash client) = refl
+letter_is (SetPass client pass) = refl
+letter_is (GivePass client pass) = refl
 
 letters_same : (one other : Event) → event_words one ≡ event_words other → letter one ≡ letter other
 letters_same one other e = sym (letter_is one) ∙ ap (λ (words : List ℕ). get_or words 0 0) e ∙ letter_is other
@@ -85,6 +97,18 @@ events_same (Deliver n) (Deliver m) p q e =
     ap Deliver (decimal_injective n m (omega arith) (omega arith) (append_cancel_left (codes "deliver ") (decimal n) (decimal m) (sym (deliver_words n) ∙ e ∙ deliver_words m)))
 events_same (Answer n) (Answer m) p q e =
     ap Answer (decimal_injective n m (omega arith) (omega arith) (append_cancel_left (codes "answer ") (decimal n) (decimal m) (sym (answer_words n) ∙ e ∙ answer_words m)))
+events_same (Cut client kept edit) other p q e = absurd p
+events_same (Ask client) other p q e = absurd p
+events_same (Lose client) other p q e = absurd p
+events_same (Crash client) other p q e = absurd p
+events_same (SetPass client pass) other p q e = absurd p
+events_same (GivePass client pass) other p q e = absurd p
+events_same one (Cut client kept edit) p q e = absurd q
+events_same one (Ask client) p q e = absurd q
+events_same one (Lose client) p q e = absurd q
+events_same one (Crash client) p q e = absurd q
+events_same one (SetPass client pass) p q e = absurd q
+events_same one (GivePass client pass) p q e = absurd q
 events_same one other p q e = absurd (let no = letters_same one other e in omega (arith, no))
 
 pub lists_same : (one other : List Event) → AllByRecursion IsKnown one → AllByRecursion IsKnown other → map event_words one ≡ map event_words other → one ≡ other

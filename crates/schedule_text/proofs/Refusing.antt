@@ -1,6 +1,7 @@
 -- Where the reader stops.
 use Rattle.std.proofs.Common.{◌≡◌, ◌≢◌, inr, ℕ, ◌+◌, ◌≤◌, List, [], ◌∷◌, ◌++◌, map, length, codes, Result, Ok, Err, refl, sym, ap, subst, ◌∙◌, arith, append_assoc}
 use Rattle.std.specs.Prelude.{MatchResult}
+use Rattle.std.specs.Fmt.{digits}
 use Rattle.std.specs.List.{AllByRecursion, flat_map}
 use Rattle.sync_model.specs.declared.event.Event.{Event}
 use Rattle.sync_model.specs.declared.event.Schedule.{Schedule}
@@ -50,12 +51,12 @@ fault_in_place lines rest words after events before NoMemory count is known with
 
 -- ---- the whole text
 
-pub spelled : (bytes lines : List ℕ) (events : List Event) → bytes ≡ with_end (clients_words 1) ++ lines → AreEventsOf lines events → Spells bytes (record { clients = 1; events = events })
-unfolding schedule_text
+pub spelled : (bytes lines : List ℕ) (events : List Event) → bytes ≡ with_end (clients_words 1) ++ lines → AreEventsOf lines events → Spells bytes (record { clients = 1; seed = 0; passes = []; events = events })
+unfolding schedule_text digits
 spelled bytes lines events is are =
     record {
       is_text = is ∙ ap (λ (l : List ℕ). with_end (clients_words 1) ++ l) are.are_lines;
-      is_schedule = record { one_client = refl; known = are.known; within = are.within };
+      is_schedule = record { one_client = refl; no_seed = refl; no_passes = refl; known = are.known; within = are.within };
     }
 
 lines_length : (events : List Event) → length (clients_words 1 ∷ map event_words events) ≡ length events + 1

@@ -1,12 +1,13 @@
 -- A text spells one schedule at most, is refused at one line at most, and never both.
 use Rattle.std.proofs.Common.{◌≡◌, ◌≢◌, inl, inr, ℕ, suc, ◌+◌, ◌≤◌, List, [], ◌∷◌, ◌++◌, map, length, refl, sym, ap, subst, ◌∙◌, arith}
+use Rattle.std.specs.Fmt.{digits}
 use Rattle.std.specs.List.{AllByRecursion, flat_map}
 use Rattle.std.proofs.lemmas.List.{append-nil}
 use Rattle.sync_model.specs.declared.event.Event.{Event}
 use Rattle.sync_model.specs.declared.event.Schedule.{Schedule}
 use Rattle.schedule_text.specs.declared.fault.LineReason.{LineReason}
 use Rattle.schedule_text.specs.declared.fault.LineReason.TheVariants.{End, Later}
-use Rattle.schedule_text.specs.Lines.{clients_words, event_words, schedule_text, with_end}
+use Rattle.schedule_text.specs.Lines.{clients_words, event_words, seed_line, pass_lines, schedule_text, with_end}
 use Rattle.schedule_text.specs.Spelling.{IsKnown, MAX_EVENTS, Spells}
 use Rattle.schedule_text.specs.Refusals.{HasWrongLine, IsNoLine, MayStand, MayStandFrom}
 use Rattle.schedule_text.specs.Reading.{event_lines}
@@ -55,9 +56,11 @@ unfolding lines_of
 lines_stand events known within = (refl, events_stand 0 events known (omega arith))
 
 spelled_lines : (text : List ℕ) (schedule : Schedule) → Spells text schedule → text ≡ flat_map with_end (lines_of schedule.events) ++ []
-unfolding lines_of schedule_text
+unfolding lines_of schedule_text digits
 spelled_lines text schedule spells =
-    let whole : text ≡ with_end (clients_words 1) ++ event_lines schedule.events = spells.is_text ∙ ap (λ (n : ℕ). with_end (clients_words n) ++ event_lines schedule.events) spells.is_schedule.one_client in
+    let is = spells.is_schedule in
+    let heads : ℕ → ℕ → List (List ℕ) → List ℕ = λ clients seed passes. with_end (clients_words clients) ++ seed_line seed ++ pass_lines passes ++ event_lines schedule.events in
+    let whole : text ≡ with_end (clients_words 1) ++ event_lines schedule.events = spells.is_text ∙ (λ i. heads (is.one_client i) (is.no_seed i) (is.no_passes i)) in
     whole ∙ ap (λ (l : List ℕ). with_end (clients_words 1) ++ l) (sym (event_lines_are schedule.events)) ∙ sym (append-nil (with_end (clients_words 1) ++ flat_map with_end (map event_words schedule.events)))
 
 events_from_lines : (one other : List Event) → lines_of one ≡ lines_of other → map event_words one ≡ map event_words other
@@ -70,8 +73,9 @@ spells_one text one other first second =
     let same = lines_same 0 (lines_of one.events) (lines_of other.events) [] [] (lines_stand one.events first.is_schedule.known first.is_schedule.within) (lines_stand other.events second.is_schedule.known second.is_schedule.within) (nothing_ends (number_after 0 (lines_of one.events))) (nothing_ends (number_after 0 (lines_of other.events))) whole in
     let events : one.events ≡ other.events = lists_same one.events other.events first.is_schedule.known second.is_schedule.known (events_from_lines one.events other.events same.0) in
     let clients : one.clients ≡ other.clients = first.is_schedule.one_client ∙ sym second.is_schedule.one_client in
-    let by_clients : one ≡ record { clients = other.clients; events = one.events } = ap (λ (n : ℕ). record { clients = n; events = one.events }) clients in
-    by_clients ∙ ap (λ (l : List Event). record { clients = other.clients; events = l }) events
+    let seed : one.seed ≡ other.seed = first.is_schedule.no_seed ∙ sym second.is_schedule.no_seed in
+    let passes : one.passes ≡ other.passes = first.is_schedule.no_passes ∙ sym second.is_schedule.no_passes in
+    λ i. record { clients = clients i; seed = seed i; passes = passes i; events = events i }
 
 refusal_ends : (before : List (List ℕ)) (rest : List ℕ) (reason : LineReason) → IsNoLine (length before) rest reason → CannotGoOn (number_after 0 before) rest
 refusal_ends before rest reason no_line =

@@ -3,7 +3,7 @@ use Rattle.std.specs.Prelude.{◌≡◌, ◌≢◌, ℕ, ◌+◌, ◌≤◌, Lis
 use Rattle.std.specs.List.{AllByRecursion, flat_map}
 use Rattle.sync_values.specs.declared.value.Preference.{Preference}
 use Rattle.sync_model.specs.declared.event.Event.{Event}
-use Rattle.sync_model.specs.declared.event.Event.TheVariants.{Edit, Turn, Gather, Post, Offer, Deliver, Answer}
+use Rattle.sync_model.specs.declared.event.Event.TheVariants.{Edit, Cut, Turn, Gather, Post, Ask, Offer, Lose, Crash, Deliver, Answer, SetPass, GivePass}
 use Rattle.schedule_text.specs.declared.fault.LineReason.{LineReason}
 use Rattle.schedule_text.specs.declared.fault.LineReason.TheVariants.{Later}
 use Rattle.schedule_text.specs.declared.fault.ParseFault.{ParseFault}
@@ -40,6 +40,12 @@ IsTurn (Post client kind) = IsKnown (Post client kind)
 IsTurn (Offer client) = IsKnown (Offer client)
 IsTurn (Deliver event) = ⊥
 IsTurn (Answer event) = ⊥
+IsTurn (Cut client kept edit) = ⊥
+IsTurn (Ask client) = ⊥
+IsTurn (Lose client) = ⊥
+IsTurn (Crash client) = ⊥
+IsTurn (SetPass client pass) = ⊥
+IsTurn (GivePass client pass) = ⊥
 
 -- a known event that is no edit
 abbrev pub IsStep : Event → Type 0
@@ -50,6 +56,12 @@ IsStep (Post client kind) = IsKnown (Post client kind)
 IsStep (Offer client) = IsKnown (Offer client)
 IsStep (Deliver event) = IsKnown (Deliver event)
 IsStep (Answer event) = IsKnown (Answer event)
+IsStep (Cut client kept edit) = ⊥
+IsStep (Ask client) = ⊥
+IsStep (Lose client) = ⊥
+IsStep (Crash client) = ⊥
+IsStep (SetPass client pass) = ⊥
+IsStep (GivePass client pass) = ⊥
 
 -- a fault that tells of a line, and not of memory
 abbrev pub IsRefusal : List ℕ → ParseFault → Type 0

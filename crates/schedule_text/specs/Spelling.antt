@@ -1,11 +1,11 @@
 -- Which schedules there are at this stage, and which text spells one.
-use Rattle.std.specs.Prelude.{◌≡◌, ℕ, ◌<◌, ◌≤◌, List, length}
+use Rattle.std.specs.Prelude.{◌≡◌, ℕ, ◌<◌, ◌≤◌, List, [], length}
 use Rattle.std.specs.List.{AllByRecursion}
 use Rattle.client_tags.specs.declared.Kind.TheVariants.{Preference}
 use Rattle.sync_values.specs.declared.edit.Edit.{Edit as Change}
 use Rattle.sync_values.specs.declared.edit.Edit.TheVariants.{SetPreference, DeletePreference, SetPassword, DeletePassword, SetNigori}
 use Rattle.sync_model.specs.declared.event.Event.{Event}
-use Rattle.sync_model.specs.declared.event.Event.TheVariants.{Edit, Turn, Gather, Post, Offer, Deliver, Answer}
+use Rattle.sync_model.specs.declared.event.Event.TheVariants.{Edit, Cut, Turn, Gather, Post, Ask, Offer, Lose, Crash, Deliver, Answer, SetPass, GivePass}
 use Rattle.sync_model.specs.declared.event.Schedule.{Schedule}
 use Rattle.schedule_text.specs.Lines.{schedule_text}
 
@@ -34,10 +34,18 @@ IsKnown (Post client kind) = (client ≡ 1) × (kind ≡ Preference)
 IsKnown (Offer client) = client ≡ 1
 IsKnown (Deliver event) = (1 ≤ event) × (event ≤ MAX_EVENTS)
 IsKnown (Answer event) = (1 ≤ event) × (event ≤ MAX_EVENTS)
+IsKnown (Cut client kept edit) = ⊥
+IsKnown (Ask client) = ⊥
+IsKnown (Lose client) = ⊥
+IsKnown (Crash client) = ⊥
+IsKnown (SetPass client pass) = ⊥
+IsKnown (GivePass client pass) = ⊥
 
--- a schedule that this stage knows: one client, and at most so many known events
+-- a schedule that this stage knows: one client, no seed, no passphrases, and at most so many known events
 pub record IsSchedule (schedule : Schedule) : Type 0 where
   pub one_client : schedule.clients ≡ 1
+  pub no_seed : schedule.seed ≡ 0
+  pub no_passes : schedule.passes ≡ []
   pub known : AllByRecursion IsKnown schedule.events
   pub within : length schedule.events ≤ MAX_EVENTS
 

@@ -87,6 +87,8 @@ fn schedule_of(alloc: Global, bytes: &[u8]) -> Result<Schedule, ParseFault>
     let events = events_of(alloc, lines)?;
     Ok(Schedule {
         clients: 1,
+        seed: 0,
+        passes: List::new(alloc),
         events: List::from_vec(events),
     })
 }

@@ -11,7 +11,7 @@ use Rattle.sync_program.specs.declared.status.Status.{Status}
 use Rattle.sync_program.specs.declared.status.Status.TheVariants.{Ok, Usage, BadSchedule, ReadFault, WriteFault, NoMemory, TooBig}
 use Rattle.sync_program.specs.Texts.{bad_schedule_line}
 use Rattle.sync_program.specs.Outside.{Reading, Writing, SourceFailed, SinkFailed, GaveText, Wrote, IsCutShort, Printed}
-use Rattle.sync_program.specs.Replay.{MAX_TEXT, report_of, GaveSchedule, GaveRefused, GaveTooMuch, HasCause, TellsSchedule, TellsRefused, TellsTooMuch, Replays, Refuses, RefusesLength, IsOkOrNoMemory}
+use Rattle.sync_program.specs.Replay.{MAX_TEXT, report_of, GaveSchedule, GaveRefused, GaveTooMuch, HasCause, TellsSchedule, TellsRefused, Replays, Refuses, IsOkOrNoMemory}
 
 -- the text that the source gave is the one that it told
 is_told : {S : Type 0} (r : Reading S) (text told : List ℕ) → GaveText r text → r.left r.before ≡ Some told → text ≡ told

@@ -6,8 +6,8 @@ use Rattle.std.specs.List.{AllByRecursion}
 use Rattle.sync_values.specs.declared.edit.Edit.{Edit as Change}
 use Rattle.sync_values.specs.declared.edit.Edit.TheVariants.{SetPreference, DeletePreference, SetPassword, DeletePassword, SetNigori}
 use Rattle.sync_model.specs.declared.event.Event.{Event}
-use Rattle.sync_model.specs.declared.event.Event.TheVariants.{Edit, Turn, Gather, Post, Offer, Deliver, Answer}
-use Rattle.sync_model.specs.Keys.{names}
+use Rattle.sync_model.specs.declared.event.Event.TheVariants.{Edit, Cut, Turn, Gather, Post, Ask, Offer, Lose, Crash, Deliver, Answer, SetPass, GivePass}
+use Rattle.sync_model.specs.Settings.{names}
 use Rattle.sync_model.specs.Worlds.{World, stepped, run}
 use Rattle.schedule_text.specs.Spelling.{IsPreferenceChange, IsKnown}
 use Rattle.replay_world.specs.Events.{IsPreferenceEdit, CanStep}
@@ -29,6 +29,12 @@ can_step (Post client kind) known = known
 can_step (Offer client) known = known
 can_step (Deliver event) known = tt
 can_step (Answer event) known = tt
+can_step (Cut client kept edit) known = known
+can_step (Ask client) known = known
+can_step (Lose client) known = known
+can_step (Crash client) known = known
+can_step (SetPass client pass) known = known
+can_step (GivePass client pass) known = known
 
 -- what holds of each event holds of that at a place
 holds_at : (P : Event → Type 0) (events : List Event) (i : ℕ) (d : Event)

@@ -2,7 +2,7 @@
 use Rattle.std.specs.Prelude.{◌≡◌, ℕ, ◌+◌, ◌<◌, ◌≤◌, ◌⊎◌, List, length, Option, Some, IfSome}
 use Rattle.outer_edge.specs.Source.{GaveCount}
 use Rattle.sync_model.specs.declared.event.Schedule.{Schedule}
-use Rattle.sync_model.specs.Keys.{names}
+use Rattle.sync_model.specs.Settings.{names}
 use Rattle.sync_model.specs.Report.{report}
 use Rattle.sync_model.specs.Worlds.{world_of}
 use Rattle.schedule_text.specs.declared.fault.LineReason.{LineReason}

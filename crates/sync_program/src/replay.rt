@@ -4,7 +4,7 @@ ghost use Rattle.std.specs.Prelude.{◌≡◌, ◌+◌, ℕ, IfOk, MatchResult};
 ghost use Rattle.outer_edge.specs.Faults.{NeverFalls};
 ghost use Rattle.outer_edge.specs.Source.{GaveUpTo};
 ghost use Rattle.sync_model.specs.declared.event.Schedule.{Schedule as Plan};
-ghost use Rattle.sync_model.specs.Keys.{names};
+ghost use Rattle.sync_model.specs.Settings.{names};
 ghost use Rattle.sync_model.specs.Worlds.{world_of};
 ghost use Rattle.schedule_text.specs.declared.fault.LineReason.{LineReason as Reason};
 ghost use Rattle.schedule_text.specs.Spelling.{IsSchedule};

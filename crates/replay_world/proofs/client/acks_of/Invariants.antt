@@ -1,7 +1,7 @@
 use Rattle.std.proofs.Common.{◌≡◌, ◌++◌, length}
 use Rattle.std.specs.List.{AllByRecursion}
 use Rattle.client_tags.specs.declared.Kind.TheVariants.{Preference as preference_kind}
-use Rattle.sync_model.specs.Clients.{acks_of}
+use Rattle.sync_model.specs.Receiving.{acks_of}
 use Rattle.replay_world.specs.Servers.{IsPreference}
 use Rattle.replay_world.proofs.client.acks_of.Given as goal
 

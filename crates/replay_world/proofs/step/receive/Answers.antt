@@ -6,7 +6,7 @@ use Rattle.replay_world.proofs.step.receive.Goals as goal
 
 pub returns-clause-receives : goal.returns-clause-receives
 returns-clause-receives c =
-    reply_received (reverse c.args.outcomes.now) c.args.event c.in-Some.delivery.request (client_of c.args.client.now) (client_of c.answer.new.self) c.in-Some.delivery.answers.now c.in-Some-request_made.entries.now c.answer.result
-    (sym c.in-Some.ensures.answers) c.in-Some.ensures.request (sym c.in-Some-request_made.ensures.request)
+    reply_received (reverse c.args.outcomes.now) c.args.event c.in-Some.delivery.request (client_of c.args.client.now) (client_of c.answer.new.self) c.in-Some.delivery.reply.now c.in-Some-request_made.request.now c.answer.result
+    (sym c.in-Some.ensures.reply) c.in-Some.ensures.request (sym c.in-Some-request_made.ensures.request)
     (own_outcome (reverse c.args.outcomes.now) c.in-Some.delivery.request c.requires.own) (sym c.awaits.ensures ∙ c.if-not-awaits.false)
-    (rw (c.as_slice.ensures, c.as_slice-2.ensures) at c.answer.ensures.happens)
+    c.answer.ensures.happens

@@ -8,4 +8,4 @@ returns-in_err-events c =
     rw (p.1, p.2) (fault_of_text c.args.bytes.now c.in_ok-lines.lines.now c.in_err-events.field-0.0 c.in_ok-lines.ensures c.in_err-events.ensures)
 
 pub returns : goal.returns
-returns c = rw c.from_vec.ensures (spelled c.args.bytes.now c.in_ok-lines.lines.now c.in_ok-events.events.items c.in_ok-lines.ensures c.in_ok-events.ensures)
+returns c = rw (c.new.ensures, c.from_vec.ensures) (spelled c.args.bytes.now c.in_ok-lines.lines.now c.in_ok-events.events.items c.in_ok-lines.ensures c.in_ok-events.ensures)

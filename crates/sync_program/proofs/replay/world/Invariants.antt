@@ -1,5 +1,5 @@
 use Rattle.std.proofs.Common.{◌≡◌, length, drop}
-use Rattle.sync_model.specs.Keys.{names}
+use Rattle.sync_model.specs.Settings.{names}
 use Rattle.sync_model.specs.Worlds.{run, world_of}
 use Rattle.sync_program.proofs.replay.world.Given as goal
 

@@ -1,6 +1,6 @@
 use Rattle.std.proofs.Common.{◌∙◌, ap}
 use Rattle.std.specs.Prelude.{reverse}
-use Rattle.sync_model.specs.Keys.{names}
+use Rattle.sync_model.specs.Settings.{names}
 use Rattle.sync_model.specs.Report.{report}
 use Rattle.replay_world.specs.Clients.{client_of}
 use Rattle.replay_world.specs.Servers.{history_of}
