@@ -1,0 +1,4 @@
+mod Bytes
+mod Parts
+mod Sealed
+mod Verdicts

@@ -1,0 +1,4 @@
+pub mod Sealing
+pub mod Unsealing
+pub mod Verdicts
+pub mod Laws
