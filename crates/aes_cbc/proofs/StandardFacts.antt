@@ -12,7 +12,7 @@ pub product : 0x57 • 0x83 ≡ 0xc1
 unfolding ◌•◌ polynomial_product remainder
 product = refl
 
--- the entry of the S-box that section 5.1.1 looks up
+-- the entry of the S-box that FIPS 197, section 5.1.1, looks up
 pub entry : sub_byte 0x53 ≡ 0xed
 unfolding sub_byte affine number_of_bits inverse ◌•◌ polynomial_product remainder
 entry = refl
