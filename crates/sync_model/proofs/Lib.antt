@@ -7,3 +7,5 @@ pub mod CrashRows
 pub mod TableRows
 pub mod Writes
 pub mod Longer
+pub mod KeyLookups
+pub mod KnownKeys
