@@ -9,3 +9,4 @@ pub mod Writes
 pub mod Longer
 pub mod KeyLookups
 pub mod KnownKeys
+pub mod KnownSides
