@@ -10,3 +10,7 @@ pub mod Longer
 pub mod KeyLookups
 pub mod KnownKeys
 pub mod KnownSides
+pub mod KnownClients
+pub mod KnownChanges
+pub mod KnownSending
+pub mod KnownReceiving
