@@ -14,3 +14,6 @@ pub mod KnownClients
 pub mod KnownChanges
 pub mod KnownSending
 pub mod KnownReceiving
+pub mod TrueAcks
+pub mod WantedWrites
+pub mod WholeBatches
