@@ -17,3 +17,5 @@ pub mod KnownReceiving
 pub mod TrueAcks
 pub mod WantedWrites
 pub mod WholeBatches
+pub mod KnownWorlds
+pub mod Agreement

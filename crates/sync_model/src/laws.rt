@@ -1,9 +1,15 @@
 //! What is proved of every run, by the definitions alone.
-ghost use Rattle.sync_model.specs.Laws.{EveryEventKeepsBased, EveryWriteIsBased};
+ghost use Rattle.sync_model.specs.Laws.{EveryCaughtUpSideAgrees, EveryEventKeepsBased, EveryWriteIsBased};
 
 /// Whatever a schedule delivers, and however often: the server replaced an entity only by a commit that
 /// was based on the version that it had. So a repeated commit acts at most once for each entry.
 pub fn every_write_is_based()
     ensures each_event { EveryEventKeepsBased }
     ensures each_run { EveryWriteIsBased }
+{}
+
+/// Whatever is delivered and lost, and however often: a client that has all that the server has, and has
+/// nothing to send of a type, shows the value of the last write of each key of that type.
+pub fn every_caught_up_side_agrees()
+    ensures { EveryCaughtUpSideAgrees }
 {}

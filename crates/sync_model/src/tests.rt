@@ -4,3 +4,8 @@ use super::*;
 fn has_a_law() {
     every_write_is_based();
 }
+
+#[test]
+fn has_the_law_of_agreement() {
+    every_caught_up_side_agrees();
+}
