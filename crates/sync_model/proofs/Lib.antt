@@ -5,3 +5,5 @@ pub mod ConflictRows
 pub mod PassphraseRows
 pub mod CrashRows
 pub mod TableRows
+pub mod Histories
+pub mod Deliveries

@@ -16,3 +16,4 @@ pub mod Worlds
 pub mod Fates
 pub mod Report
 pub mod Laws
+pub mod Deliveries

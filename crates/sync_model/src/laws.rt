@@ -1,9 +1,15 @@
 //! What is proved of every run, by the definitions alone.
 ghost use Rattle.sync_model.specs.Laws.{EveryEventKeepsBased, EveryWriteIsBased};
+ghost use Rattle.sync_model.specs.Laws.{EveryEntryWritesOnce};
 
 /// Whatever a schedule delivers, and however often: the server replaced an entity only by a commit that
 /// was based on the version that it had. So a repeated commit acts at most once for each entry.
 pub fn every_write_is_based()
     ensures each_event { EveryEventKeepsBased }
     ensures each_run { EveryWriteIsBased }
+{}
+
+/// However often a request is delivered, each of its entries is stored at most once.
+pub fn every_entry_writes_once()
+    ensures { EveryEntryWritesOnce }
 {}

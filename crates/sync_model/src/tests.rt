@@ -4,3 +4,8 @@ use super::*;
 fn has_a_law() {
     every_write_is_based();
 }
+
+#[test]
+fn has_a_law_on_entries() {
+    every_entry_writes_once();
+}
