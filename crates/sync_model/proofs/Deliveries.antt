@@ -1,5 +1,5 @@
 -- What a delivery says that it stored is in the history from then on; so each entry writes once.
-use Rattle.std.proofs.Common.{◌≡◌, ℕ, zero, suc, ◌+◌, ◌<◌, Bool, true, false, cond, List, [], ◌∷◌, length, Option, Some, None, is_some, refl, sym, ap, ◌∙◌, subst, eqb, arith}
+use Rattle.std.proofs.Common.{◌≡◌, ℕ, zero, suc, ◌+◌, ◌<◌, Bool, true, false, cond, List, [], ◌∷◌, length, slice_get, Option, Some, None, is_some, refl, sym, ap, ◌∙◌, subst, eqb, arith}
 use Rattle.std.proofs.lemmas.Bool.{eqb-true}
 use Rattle.std.proofs.lemmas.Option.{none-some, same_Some}
 use Rattle.client_tags.specs.declared.Kind.{Kind}
@@ -29,7 +29,7 @@ use Rattle.sync_model.specs.Sending.{is_gather_void, gather_effect, is_busy, ask
 use Rattle.sync_model.specs.Receiving.{answer_effect, post_effect_at, post_effect, turn_effect_at, turn_effect}
 use Rattle.sync_model.specs.Changes.{edit_refusal, edit_effect, change_effect, cut_short, cut_effect, crash_effect, set_pass_refusal, set_pass_effect, give_pass_refusal, give_pass_effect}
 use Rattle.sync_model.specs.Laws.{answer_in, Stores, EveryEntryWritesOnce}
-use Rattle.sync_model.specs.Deliveries.{entry_in, entry_sent, IsStored, SaysTrue, DeliveriesAreTrue}
+use Rattle.sync_model.specs.Deliveries.{entries_in, entries_sent, IsStored, SaysTrue, DeliveriesAreTrue}
 use Rattle.sync_model.specs.Worlds.{World, opening, client_at, pass_at, next_event, outcome_at, affected, acted, STORE_BIRTHDAY, is_invalid_entry, delivered, is_awaited, replied, answered, stepped, run}
 use Rattle.sync_model.proofs.Versions.{stepped-IsBased}
 use Rattle.sync_model.proofs.Histories.{committed-kept, committed-stores, write_at-once}
@@ -57,18 +57,18 @@ later_outcome (outcome ∷ outcomes) event late =
     later_by outcome outcomes event (eqb event (length outcomes + 1)) refl late (later_outcome outcomes event (omega (arith, late)))
 
 kept_by : (outcome : EventOutcome) (outcomes : List EventOutcome) (event place : ℕ) (entry : Entry Content) (here : Bool)
-    → eqb event (length outcomes + 1) ≡ here → entry_sent (outcome_at outcomes event) place ≡ Some entry
-    → entry_sent (cond here outcome (outcome_at outcomes event)) place ≡ Some entry
+    → eqb event (length outcomes + 1) ≡ here → slice_get (entries_sent (outcome_at outcomes event)) place ≡ Some entry
+    → slice_get (entries_sent (cond here outcome (outcome_at outcomes event))) place ≡ Some entry
 kept_by outcome outcomes event place entry true at is =
     let number = eqb-true event (length outcomes + 1) at
-    in absurd (none-some entry (ap (λ (made : EventOutcome). entry_sent made place) (sym (later_outcome outcomes event (omega (arith, number)))) ∙ is))
+    in absurd (none-some entry (ap (λ (made : EventOutcome). slice_get (entries_sent made) place) (sym (later_outcome outcomes event (omega (arith, number)))) ∙ is))
 kept_by outcome outcomes event place entry false at is = is
 
 -- a request stays in the log
-entry_sent-kept : (outcome : EventOutcome) (outcomes : List EventOutcome) (event place : ℕ) (entry : Entry Content)
-    → entry_sent (outcome_at outcomes event) place ≡ Some entry → entry_sent (outcome_at (outcome ∷ outcomes) event) place ≡ Some entry
+entries_sent-kept : (outcome : EventOutcome) (outcomes : List EventOutcome) (event place : ℕ) (entry : Entry Content)
+    → slice_get (entries_sent (outcome_at outcomes event)) place ≡ Some entry → slice_get (entries_sent (outcome_at (outcome ∷ outcomes) event)) place ≡ Some entry
 unfolding outcome_at
-entry_sent-kept outcome outcomes event place entry is =
+entries_sent-kept outcome outcomes event place entry is =
     kept_by outcome outcomes event place entry (eqb event (length outcomes + 1)) refl is
 
 stores_by : {P : Type 0} (outcome : EventOutcome) (outcomes : List EventOutcome) (delivery request place version : ℕ) (here : Bool)
@@ -91,7 +91,7 @@ IsStored-kept : (old new : List (Entry Content)) (outcome : EventOutcome) (outco
     → IsStored old outcomes request place version → IsStored new (outcome ∷ outcomes) request place version
 IsStored-kept old new outcome outcomes request place version keeps stored = record {
   entry = stored.entry;
-  is_sent = entry_sent-kept outcome outcomes request place stored.entry stored.is_sent;
+  is_sent = entries_sent-kept outcome outcomes request place stored.entry stored.is_sent;
   is_write = keeps version stored.entry stored.is_write;
 }
 
@@ -258,7 +258,7 @@ served-kept history request version write is =
 -- an entry of a call is a write of a history
 abbrev IsPut : List (Entry Content) → Call Content → ℕ → ℕ → Type 0
 IsPut history call place version =
-    (entry : Entry Content) × (entry_in call place ≡ Some entry) × (write_at history version ≡ Some entry)
+    (entry : Entry Content) × (slice_get (entries_in call) place ≡ Some entry) × (write_at history version ≡ Some entry)
 
 -- what an accepted request is told to be stored is stored
 verdict-stores : (history : List (Entry Content)) (call : Call Content) (place version : ℕ)
@@ -289,12 +289,12 @@ delivery-stores : (world : World) (event client : ℕ) (asked : Request Content)
     (Delivered event (reply_to is_invalid_entry STORE_BIRTHDAY world.history asked) ∷ world.outcomes) request place version
 delivery-stores world event client asked made request place version stores =
     let put = reply-stores world.history asked place version stores.1
-    in let sent : entry_sent (outcome_at world.outcomes event) place ≡ Some put.0
-    = ap (λ (outcome : EventOutcome). entry_sent outcome place) made ∙ put.1
+    in let sent : slice_get (entries_sent (outcome_at world.outcomes event)) place ≡ Some put.0
+    = ap (λ (outcome : EventOutcome). slice_get (entries_sent outcome) place) made ∙ put.1
     in record {
       entry = put.0;
-      is_sent = entry_sent-kept _ world.outcomes request place put.0
-          (subst (λ (number : ℕ). entry_sent (outcome_at world.outcomes number) place ≡ Some put.0) stores.0 sent);
+      is_sent = entries_sent-kept _ world.outcomes request place put.0
+          (subst (λ (number : ℕ). slice_get (entries_sent (outcome_at world.outcomes number)) place ≡ Some put.0) stores.0 sent);
       is_write = put.2;
     }
 
@@ -342,7 +342,7 @@ run-DeliveriesAreTrue setting world (event ∷ events) before =
     run-DeliveriesAreTrue setting (stepped setting event world) events (stepped-DeliveriesAreTrue setting event world before)
 
 -- before any event nothing was delivered
-opening-DeliveriesAreTrue : (clients : ℕ) (passes : List (List ℕ)) → DeliveriesAreTrue (opening clients passes)
+pub opening-DeliveriesAreTrue : (clients : ℕ) (passes : List (List ℕ)) → DeliveriesAreTrue (opening clients passes)
 unfolding outcome_at
 opening-DeliveriesAreTrue clients passes = record {
   based = tt;

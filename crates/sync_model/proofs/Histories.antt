@@ -13,7 +13,7 @@ use Rattle.sync_model.specs.Values.{same_kind, same_key}
 use Rattle.sync_model.specs.History.{last_version, write_at, is_over_quota, answer_to, history_with, committed, answers_to, IsBased}
 
 -- a type is itself
-pub same_kind-self : (kind : Kind) → same_kind kind kind ≡ true
+same_kind-self : (kind : Kind) → same_kind kind kind ≡ true
 same_kind-self Nigori = refl
 same_kind-self Preference = refl
 same_kind-self Password = refl

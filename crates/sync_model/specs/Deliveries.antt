@@ -1,5 +1,5 @@
 -- What every event keeps of the server's answers: each entry that a delivery says it stored is in the history.
-use Rattle.std.specs.Prelude.{◌≡◌, ℕ, List, Option, Some, None}
+use Rattle.std.specs.Prelude.{◌≡◌, ℕ, List, [], Some}
 use Rattle.std.specs.List.{slice_get}
 use Rattle.sync_model.specs.declared.event.EventOutcome.{EventOutcome}
 use Rattle.sync_model.specs.declared.event.EventOutcome.TheVariants.{Void, Done, Edited, Requested, Delivered}
@@ -11,23 +11,23 @@ use Rattle.sync_model.specs.History.{write_at, IsBased}
 use Rattle.sync_model.specs.Laws.{Stores}
 use Rattle.sync_model.specs.Worlds.{World, outcome_at}
 
--- the entry at a place of a commit, if there is one
-abbrev pub entry_in : Call Content → ℕ → Option (Entry Content)
-entry_in (Commit entries) place = slice_get entries place
-entry_in (AskUpdates marks) place = None
+-- the entries of a commit
+abbrev pub entries_in : Call Content → List (Entry Content)
+entries_in (Commit entries) = entries
+entries_in (AskUpdates marks) = []
 
--- the entry at a place of the request that an event made, if there is one
-abbrev pub entry_sent : EventOutcome → ℕ → Option (Entry Content)
-entry_sent (Requested client request) place = entry_in request.call place
-entry_sent Void place = None
-entry_sent Done place = None
-entry_sent (Edited client kind number) place = None
-entry_sent (Delivered request reply) place = None
+-- the entries of the request that an event made
+abbrev pub entries_sent : EventOutcome → List (Entry Content)
+entries_sent (Requested client request) = entries_in request.call
+entries_sent Void = []
+entries_sent Done = []
+entries_sent (Edited client kind number) = []
+entries_sent (Delivered request reply) = []
 
 -- the entry at a place of the request of an event is the write of a version
 pub record IsStored (history : List (Entry Content)) (outcomes : List EventOutcome) (request place version : ℕ) : Type 0 where
   pub entry : Entry Content
-  pub is_sent : entry_sent (outcome_at outcomes request) place ≡ Some entry
+  pub is_sent : slice_get (entries_sent (outcome_at outcomes request)) place ≡ Some entry
   pub is_write : write_at history version ≡ Some entry
 
 -- what a delivery says it stored is in the history, at the version that it says
