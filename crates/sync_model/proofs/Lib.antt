@@ -7,3 +7,13 @@ pub mod CrashRows
 pub mod TableRows
 pub mod Histories
 pub mod Deliveries
+pub mod EachLemmas
+pub mod KeyNames
+pub mod KeyHistory
+pub mod KeyClients
+pub mod KeyTurns
+pub mod KeyEvents
+pub mod KeyMails
+pub mod KeySending
+pub mod KeyReplies
+pub mod KeyWorlds

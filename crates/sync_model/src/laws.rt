@@ -1,6 +1,7 @@
 //! What is proved of every run, by the definitions alone.
 ghost use Rattle.sync_model.specs.Laws.{EveryEventKeepsBased, EveryWriteIsBased};
 ghost use Rattle.sync_model.specs.Laws.{EveryEntryWritesOnce};
+ghost use Rattle.sync_model.specs.Laws.{EveryCurrentClientHasTheKeys, NoLockIsLost};
 
 /// Whatever a schedule delivers, and however often: the server replaced an entity only by a commit that
 /// was based on the version that it had. So a repeated commit acts at most once for each entry.
@@ -12,4 +13,12 @@ pub fn every_write_is_based()
 /// However often a request is delivered, each of its entries is stored at most once.
 pub fn every_entry_writes_once()
     ensures { EveryEntryWritesOnce }
+{}
+
+/// Whatever is delivered and lost, and however many passphrases are chosen: a key that seals a write of
+/// the server's history is among the keys of the newest write of the profile's keys, and a client that
+/// knows that write has it.
+pub fn no_key_is_lost()
+    ensures history { NoLockIsLost }
+    ensures clients { EveryCurrentClientHasTheKeys }
 {}

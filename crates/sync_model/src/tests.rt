@@ -9,3 +9,8 @@ fn has_a_law() {
 fn has_a_law_on_entries() {
     every_entry_writes_once();
 }
+
+#[test]
+fn has_a_law_on_keys() {
+    no_key_is_lost();
+}
