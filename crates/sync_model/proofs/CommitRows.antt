@@ -1,12 +1,12 @@
 -- Worked runs of commits: repeats, lost replies, tombstones.
-use Rattle.std.proofs.Common.{◌≡◌, List, [], ◌∷◌, refl}
+use Rattle.std.proofs.Common.{◌≡◌, ℕ, List, [], ◌∷◌, ◌++◌, refl}
 use Rattle.std.specs.Fmt.{digits}
 use Rattle.client_tags.specs.declared.Kind.TheVariants.{Nigori, Preference, Password}
 use Rattle.sync_model.specs.declared.event.Event.{Event}
-use Rattle.sync_model.specs.declared.event.Event.TheVariants.{Turn, Gather, Post, Ask, Offer, Lose, Deliver, Answer}
+use Rattle.sync_model.specs.declared.event.Event.TheVariants.{Edit, Turn, Gather, Post, Ask, Offer, Lose, Deliver, Answer}
 use Rattle.sync_model.specs.Text.{text_word, kind_word}
 use Rattle.sync_model.specs.Values.{same_value}
-use Rattle.sync_model.specs.Settings.{with_keys}
+use Rattle.sync_model.specs.Settings.{names, with_keys}
 use Rattle.sync_model.specs.History.{answer_to, committed, answers_to}
 use Rattle.sync_model.specs.Servers.{wanted_writes, reply_to, history_served}
 use Rattle.sync_model.specs.Conflicts.{row_of}
@@ -20,7 +20,10 @@ use Rattle.sync_model.specs.Changes.{edit_effect, change_effect, cut_effect, cra
 use Rattle.sync_model.specs.Worlds.{outcome_at, affected, STORE_BIRTHDAY, stepped, run}
 use Rattle.sync_model.specs.Fates.{fate_of, edits_made}
 use Rattle.sync_model.specs.Report.{events_text, server_text, key_text, nigori_text, value_text, lock_text, entity_line, entity_lines, client_text, side_text, value_line_text, row_word, fate_text, fate_line, client_lines, clients_lines, totals_text, report}
-use Rattle.sync_model.proofs.Runs.{symbols, text_of, after, outcome_of, set, del}
+use Rattle.std.specs.Prelude.{zero, suc, length}
+use Rattle.sync_values.specs.declared.edit.Edit.TheVariants.{SetPreference}
+use Rattle.sync_model.specs.Worlds.{opening, client_at}
+use Rattle.sync_model.proofs.Runs.{symbols, text_of, after, outcome_of, events_of, set, del}
 
 -- a world of one client before any event
 abbrev NoEvents : Type 0
@@ -46,6 +49,20 @@ RepeatedCommit =
     ∷ "side 1 preference mark 0 due 0 reseal 0 pending 0 mailbox 0"
     ∷ "side 1 password mark 0 due 0 reseal 0 pending 0 mailbox 0" ∷ "value 1 preference a known 1 a 1"
     ∷ "fate 1 preference 1 committed 1" ∷ "requests 1 deliveries 3" ∷ [])
+
+-- a commit that is delivered twice, where names are shown
+abbrev named : List Event
+named = set 1 "a" "1" ∷ Gather 1 Preference ∷ Offer 1 ∷ Deliver 3 ∷ Deliver 3 ∷ Answer 4 ∷ Post 1 Preference ∷ Turn 1 Preference ∷ []
+
+-- the same under the setting that shows names
+abbrev NamedRun : Type 0
+NamedRun =
+    report names (run names (opening 1 []) named)
+    ≡ text_of ("events 8 void 0" ∷ "server version 1 keys 1" ∷ "entity 1 preference a plain a 1" ∷ "client 1 behind"
+    ∷ "side 1 nigori mark 0 due 0 reseal 0 pending 0 mailbox 0"
+    ∷ "side 1 preference mark 0 due 0 reseal 0 pending 0 mailbox 0"
+    ∷ "side 1 password mark 0 due 0 reseal 0 pending 0 mailbox 0" ∷ "value 1 preference a known 1 a 1"
+    ∷ "fate 1 preference 1 committed 1" ∷ "requests 1 deliveries 2" ∷ [])
 
 -- a reply is lost, and the client asks what became of its edit
 abbrev lost : List Event
@@ -113,7 +130,28 @@ AskedTwice =
     ∷ "side 2 password mark 0 due 0 reseal 0 pending 0 mailbox 0" ∷ "value 2 preference a known 0 a 1"
     ∷ "fate 2 preference 1 stands" ∷ "requests 1 deliveries 2" ∷ [])
 
+-- a client sets so many preferences
+abbrev edits : ℕ → List Event
+edits zero = []
+edits (suc count) = edits count ++ Edit 1 (SetPreference record { name = count ∷ []; value = [] }) ∷ []
+
+-- a commit is filled, and another type gathered then
+abbrev filled : List Event
+filled = edits 26 ++ Gather 1 Preference ∷ Gather 1 Nigori ∷ []
+
+-- 25 entries are held, and the second gather is not void
+abbrev FullCommit : Type 0
+FullCommit =
+    (length (client_at (after 1 [] filled).clients 1).held ∷ [])
+    ≡ (25 ∷ [])
+
+-- no event is void
+abbrev FullCommitIsDone : Type 0
+FullCommitIsDone =
+    events_of (after 1 [] filled)
+    ≡ text_of ("events 28 void 0" ∷ [])
+
 -- all of them hold
-pub rows : NoEvents × RepeatedCommit × LostReply × OwnOlderWrite × TombstoneIsKept × AskedTwice
-unfolding symbols digits text_word kind_word same_value with_keys answer_to committed answers_to wanted_writes reply_to history_served row_of updated fate_of_update acknowledged ended after_update after_updates after_ack after_acks update_notes notes_of after_task task_notes with_all_due with_reseals bag_with sealed drawn_for gather_effect ask_effect offer_effect lose_effect acks_of updates_in answer_effect post_effect turn_effect edit_effect change_effect cut_effect crash_effect set_pass_effect give_pass_effect outcome_at affected STORE_BIRTHDAY stepped run fate_of edits_made events_text server_text key_text nigori_text value_text lock_text entity_line entity_lines client_text side_text value_line_text row_word fate_text fate_line client_lines clients_lines totals_text report
-rows = (refl, refl, refl, refl, refl, refl)
+pub rows : NoEvents × RepeatedCommit × NamedRun × LostReply × OwnOlderWrite × TombstoneIsKept × AskedTwice × FullCommit × FullCommitIsDone
+unfolding symbols digits text_word kind_word same_value names with_keys answer_to committed answers_to wanted_writes reply_to history_served row_of updated fate_of_update acknowledged ended after_update after_updates after_ack after_acks update_notes notes_of after_task task_notes with_all_due with_reseals bag_with sealed drawn_for gather_effect ask_effect offer_effect lose_effect acks_of updates_in answer_effect post_effect turn_effect edit_effect change_effect cut_effect crash_effect set_pass_effect give_pass_effect outcome_at affected STORE_BIRTHDAY stepped run fate_of edits_made events_text server_text key_text nigori_text value_text lock_text entity_line entity_lines client_text side_text value_line_text row_word fate_text fate_line client_lines clients_lines totals_text report
+rows = (refl, refl, refl, refl, refl, refl, refl, refl, refl)

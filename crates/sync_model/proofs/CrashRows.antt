@@ -9,7 +9,7 @@ use Rattle.sync_model.specs.Changes.{side_refusal}
 use Rattle.sync_model.specs.Sides.{new_side}
 use Rattle.sync_model.specs.Text.{text_word, kind_word}
 use Rattle.sync_model.specs.Values.{same_value}
-use Rattle.sync_model.specs.Settings.{with_keys}
+use Rattle.sync_model.specs.Settings.{names, with_keys}
 use Rattle.sync_model.specs.History.{answer_to, committed, answers_to}
 use Rattle.sync_model.specs.Servers.{wanted_writes, reply_to, history_served}
 use Rattle.sync_model.specs.Conflicts.{row_of}
@@ -70,7 +70,13 @@ LongIsDone =
     events_of (after 1 [] (long 16383))
     ≡ text_of ("events 1 void 0" ∷ [])
 
+-- a cut edit that would be refused is void, and nothing crashes
+abbrev RefusedCutIsVoid : Type 0
+RefusedCutIsVoid =
+    events_of (after 1 [] (Cut 1 true (SetPreference record { name = codes "a"; value = replicate 16384 49 }) ∷ []))
+    ≡ text_of ("events 1 void 1" ∷ [])
+
 -- all of them hold
-pub rows : CutShort × TooLongByOne × JustNotTooLong × LongIsVoid × LongIsDone
-unfolding symbols digits text_word kind_word same_value with_keys answer_to committed answers_to wanted_writes reply_to history_served row_of updated fate_of_update acknowledged ended after_update after_updates after_ack after_acks update_notes notes_of after_task task_notes with_all_due with_reseals bag_with sealed drawn_for gather_effect ask_effect offer_effect lose_effect acks_of updates_in answer_effect post_effect turn_effect edit_effect change_effect cut_effect crash_effect set_pass_effect give_pass_effect outcome_at affected STORE_BIRTHDAY stepped run fate_of edits_made events_text server_text key_text nigori_text value_text lock_text entity_line entity_lines client_text side_text value_line_text row_word fate_text fate_line client_lines clients_lines totals_text report
-rows = (refl, refl, refl, refl, refl)
+pub rows : CutShort × TooLongByOne × JustNotTooLong × LongIsVoid × LongIsDone × RefusedCutIsVoid
+unfolding symbols digits text_word kind_word same_value names with_keys answer_to committed answers_to wanted_writes reply_to history_served row_of updated fate_of_update acknowledged ended after_update after_updates after_ack after_acks update_notes notes_of after_task task_notes with_all_due with_reseals bag_with sealed drawn_for gather_effect ask_effect offer_effect lose_effect acks_of updates_in answer_effect post_effect turn_effect edit_effect change_effect cut_effect crash_effect set_pass_effect give_pass_effect outcome_at affected STORE_BIRTHDAY stepped run fate_of edits_made events_text server_text key_text nigori_text value_text lock_text entity_line entity_lines client_text side_text value_line_text row_word fate_text fate_line client_lines clients_lines totals_text report
+rows = (refl, refl, refl, refl, refl, refl)

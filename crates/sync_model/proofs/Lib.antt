@@ -19,3 +19,15 @@ pub mod WantedWrites
 pub mod WholeBatches
 pub mod KnownWorlds
 pub mod Agreement
+pub mod Histories
+pub mod Deliveries
+pub mod EachLemmas
+pub mod KeyNames
+pub mod KeyHistory
+pub mod KeyClients
+pub mod KeyTurns
+pub mod KeyEvents
+pub mod KeyMails
+pub mod KeySending
+pub mod KeyReplies
+pub mod KeyWorlds

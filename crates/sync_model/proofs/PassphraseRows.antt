@@ -1,6 +1,6 @@
 -- Worked runs of passphrases: a key that a client lacks, sealing anew, and two first passphrases.
 use Rattle.std.proofs.Common.{◌≡◌, ℕ, List, [], ◌∷◌, ◌++◌, refl}
-use Rattle.std.specs.Prelude.{codes, Some}
+use Rattle.std.specs.Prelude.{codes, Some, None}
 use Rattle.std.specs.Fmt.{digits}
 use Rattle.client_tags.specs.declared.Kind.TheVariants.{Nigori, Preference, Password}
 use Rattle.sync_model.specs.declared.event.Event.{Event}
@@ -8,9 +8,10 @@ use Rattle.sync_model.specs.declared.event.Event.TheVariants.{Turn, Gather, Post
 use Rattle.sync_model.specs.declared.refusal.PassRefusal.TheVariants.{WrongPass}
 use Rattle.sync_model.specs.Changes.{give_pass_refusal}
 use Rattle.sync_model.specs.Worlds.{client_at}
+use Rattle.sync_model.specs.Report.{side_line}
 use Rattle.sync_model.specs.Text.{text_word, kind_word}
 use Rattle.sync_model.specs.Values.{same_value}
-use Rattle.sync_model.specs.Settings.{with_keys}
+use Rattle.sync_model.specs.Settings.{names, with_keys}
 use Rattle.sync_model.specs.History.{answer_to, committed, answers_to}
 use Rattle.sync_model.specs.Servers.{wanted_writes, reply_to, history_served}
 use Rattle.sync_model.specs.Conflicts.{row_of}
@@ -132,7 +133,20 @@ SealedAnew =
     ∷ "value 1 nigori google_chrome_nigori known 2 lock 1 keys 1" ∷ "value 1 preference a known 3 a 1"
     ∷ "fate 1 nigori 1 committed 2" ∷ "fate 1 preference 1 committed 1" ∷ "requests 3 deliveries 3" ∷ [])
 
+-- batches that wait for a key come again once it is given
+abbrev asked_again : List Event
+asked_again =
+    SetPass 1 1 ∷ Gather 1 Nigori ∷ Offer 1 ∷ Deliver 3 ∷ Answer 4 ∷ Post 1 Nigori ∷ Turn 1 Nigori ∷ save_login
+    ∷ Gather 1 Password ∷ Offer 1 ∷ Deliver 10 ∷ Ask 2 ∷ Deliver 12 ∷ Answer 13 ∷ Post 2 Password ∷ Post 2 Nigori
+    ∷ Post 2 Preference ∷ GivePass 2 1 ∷ Ask 2 ∷ Deliver 19 ∷ Answer 20 ∷ Post 2 Password ∷ []
+
+-- the later one is mailed, and the one that waited is dropped
+abbrev LaterBatchOpens : Type 0
+LaterBatchOpens =
+    (events_of (after 2 passes asked_again) ++ side_line 2 Password None (client_at (after 2 passes asked_again).clients 2).password)
+    ≡ text_of ("events 22 void 0" ∷ "side 2 password mark 0 due 0 reseal 0 pending 0 mailbox 1" ∷ [])
+
 -- all of them hold
-pub rows : KeyIsMissing × KeyIsGiven × OneProfile × WrongPassphrase × WrongPassphraseIsVoid × SealedAnew
-unfolding symbols digits text_word kind_word same_value with_keys answer_to committed answers_to wanted_writes reply_to history_served row_of updated fate_of_update acknowledged ended after_update after_updates after_ack after_acks update_notes notes_of after_task task_notes with_all_due with_reseals bag_with sealed drawn_for gather_effect ask_effect offer_effect lose_effect acks_of updates_in answer_effect post_effect turn_effect edit_effect change_effect cut_effect crash_effect set_pass_effect give_pass_effect outcome_at affected STORE_BIRTHDAY stepped run fate_of edits_made events_text server_text key_text nigori_text value_text lock_text entity_line entity_lines client_text side_text value_line_text row_word fate_text fate_line client_lines clients_lines totals_text report
-rows = (refl, refl, refl, refl, refl, refl)
+pub rows : KeyIsMissing × KeyIsGiven × OneProfile × WrongPassphrase × WrongPassphraseIsVoid × SealedAnew × LaterBatchOpens
+unfolding symbols digits text_word kind_word same_value names with_keys answer_to committed answers_to wanted_writes reply_to history_served row_of updated fate_of_update acknowledged ended after_update after_updates after_ack after_acks update_notes notes_of after_task task_notes with_all_due with_reseals bag_with sealed drawn_for gather_effect ask_effect offer_effect lose_effect acks_of updates_in answer_effect post_effect turn_effect edit_effect change_effect cut_effect crash_effect set_pass_effect give_pass_effect outcome_at affected STORE_BIRTHDAY stepped run fate_of edits_made events_text server_text key_text nigori_text value_text lock_text entity_line entity_lines client_text side_text value_line_text row_word fate_text fate_line client_lines clients_lines totals_text report
+rows = (refl, refl, refl, refl, refl, refl, refl)

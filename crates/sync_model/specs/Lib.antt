@@ -17,3 +17,5 @@ pub mod Fates
 pub mod Report
 pub mod Laws
 pub mod Facts
+pub mod Deliveries
+pub mod KeyFacts

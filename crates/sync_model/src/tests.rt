@@ -9,3 +9,13 @@ fn has_a_law() {
 fn has_the_law_of_agreement() {
     every_caught_up_side_agrees();
 }
+
+#[test]
+fn has_a_law_on_entries() {
+    every_entry_writes_once();
+}
+
+#[test]
+fn has_a_law_on_keys() {
+    no_key_is_lost();
+}

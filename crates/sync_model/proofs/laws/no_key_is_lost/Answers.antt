@@ -1,0 +1,5 @@
+use Rattle.sync_model.proofs.KeyWorlds.{world_of-NoLockIsLost, world_of-EveryCurrentClientHasTheKeys}
+use Rattle.sync_model.proofs.laws.no_key_is_lost.Goals as goal
+
+pub returns : goal.returns
+returns c = record { history = world_of-NoLockIsLost; clients = world_of-EveryCurrentClientHasTheKeys }
