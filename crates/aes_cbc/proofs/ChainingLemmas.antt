@@ -15,7 +15,7 @@ use Rattle.aes_cbc.proofs.Chunks.{blocks_of-concat, concat-blocks_of, are_blocks
 use Rattle.aes_cbc.proofs.PaddingLemmas.{are_whole-padded, are_bytes-padded, is_padded-padded, one_text}
 
 module _ (words : List (List ℕ)) (keys : AreRoundKeys words) where
-  are_blocks-encrypted_blocks : (before : List ℕ) (blocks : List (List ℕ)) → IsBlock before → All IsBlock blocks → All IsBlock (encrypted_blocks words before blocks)
+  pub are_blocks-encrypted_blocks : (before : List ℕ) (blocks : List (List ℕ)) → IsBlock before → All IsBlock blocks → All IsBlock (encrypted_blocks words before blocks)
   unfolding encrypted_blocks
   are_blocks-encrypted_blocks before [] h k = All-nil IsBlock
   are_blocks-encrypted_blocks before (block ∷ blocks) h k =
