@@ -68,18 +68,20 @@ module _ (a b c d : ℕ) (has : HasWords a b c d) where
       bytes_of_sum _ _ ∙ ap₂ sum_of_bytes
       (bytes_of_sum _ _ ∙ ap₂ sum_of_bytes (bytes_of_sum _ _ ∙ ap₂ sum_of_bytes (has.row_0 x hx) (has.row_1 y hy)) (has.row_2 z hz)) (has.row_3 w hw)
 
-  pub column_from : (s : List ℕ) (column : ℕ) (bytes : List ℕ) (first second third last : ℕ) → IsBlock s → column < 4
-      → bytes ≡ to_be_bytes w32 (first ⊕ second ⊕ third ⊕ last)
-      → first ≡ word_of a b c d (byte_at s 0 column) → second ≡ rotate_right w32 (word_of a b c d (byte_at s 1 column)) 8
-      → third ≡ rotate_right w32 (word_of a b c d (byte_at s 2 column)) 16 → last ≡ rotate_right w32 (word_of a b c d (byte_at s 3 column)) 24
+  pub column_from : (s : List ℕ) (column : ℕ) (bytes : List ℕ) (first second third last second_turned third_turned last_turned : ℕ) → IsBlock s → column < 4
+      → bytes ≡ to_be_bytes w32 (first ⊕ second_turned ⊕ third_turned ⊕ last_turned)
+      → second_turned ≡ rotate_right w32 second 8 → third_turned ≡ rotate_right w32 third 16 → last_turned ≡ rotate_right w32 last 24
+      → first ≡ word_of a b c d (byte_at s 0 column) → second ≡ word_of a b c d (byte_at s 1 column)
+      → third ≡ word_of a b c d (byte_at s 2 column) → last ≡ word_of a b c d (byte_at s 3 column)
       → bytes ≡ mixed_column a b c d s column
-  column_from s column bytes first second third last block h are_bytes is_first is_second is_third is_last =
+  column_from s column bytes first second third last second_turned third_turned last_turned block h are_bytes turn_second turn_third turn_last is_first is_second is_third is_last =
       let x : ℕ = byte_at s 0 column in
       let y : ℕ = byte_at s 1 column in
       let z : ℕ = byte_at s 2 column in
       let w : ℕ = byte_at s 3 column in
       are_bytes
-      ∙ ap (to_be_bytes w32) (ap₂ ◌⊕◌ (ap₂ ◌⊕◌ (ap₂ ◌⊕◌ is_first is_second) is_third) is_last)
+      ∙ ap (to_be_bytes w32) (ap₂ ◌⊕◌ (ap₂ ◌⊕◌ (ap₂ ◌⊕◌ is_first (turn_second ∙ ap (λ word. rotate_right w32 word 8) is_second))
+      (turn_third ∙ ap (λ word. rotate_right w32 word 16) is_third)) (turn_last ∙ ap (λ word. rotate_right w32 word 24) is_last))
       ∙ column_of_bytes x y z w (byte_at-lt s 0 column block (omega arith) h) (byte_at-lt s 1 column block (omega arith) h)
       (byte_at-lt s 2 column block (omega arith) h) (byte_at-lt s 3 column block (omega arith) h)
       ∙ ap₂ ◌∷◌ refl (ap₂ ◌∷◌ (sym (turn (a • y) (b • z) (c • w) (d • x)))
