@@ -13,7 +13,7 @@ use Rattle.aes_cbc.proofs.ByteFacts.{sub_byte-lt, inv_sub_byte-lt, inv_sub_byte-
 
 -- ---- by row and column
 
-length-block_of : (f : ℕ → ℕ → ℕ) → length (block_of f) ≡ 16
+pub length-block_of : (f : ℕ → ℕ → ℕ) → length (block_of f) ≡ 16
 unfolding block_of
 length-block_of f = length-map-range_with_len (λ i. f (i % 4) (i / 4)) 0 16
 

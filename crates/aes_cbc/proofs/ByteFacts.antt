@@ -1,6 +1,5 @@
 -- What holds of each of the 256 bytes, computed from the definitions.
 use Rattle.std.proofs.Common.{◌≡◌, ℕ, ◌<◌, get_or, refl, sym, ap, ◌∙◌}
-use Rattle.aes_cbc.specs.Field.{◌•◌, polynomial_product, remainder}
 use Rattle.aes_cbc.specs.Substitution.{sub_byte, inv_sub_byte}
 use Rattle.aes_cbc.specs.declared.tables.TheConstants.{S_BOX, INV_S_BOX}
 use Rattle.aes_cbc.proofs.FieldLemmas.{agree_at_bytes, byte_at_bytes}
@@ -25,9 +24,3 @@ pub sub_byte-inv_sub_byte : (b : ℕ) → b < 256 → sub_byte (inv_sub_byte b) 
 sub_byte-inv_sub_byte b small =
     sym (at_s_box (inv_sub_byte b) (inv_sub_byte-lt b small)) ∙ ap (λ x. get_or S_BOX x 0) (sym (at_inv_s_box b small))
     ∙ agree_at_bytes (λ x. get_or S_BOX (get_or INV_S_BOX x 0) 0) (λ x. x) refl b small
-
--- ---- products with the coefficients of MixColumns and InvMixColumns
-
-pub one_times : (b : ℕ) → b < 256 → 1 • b ≡ b
-unfolding ◌•◌ polynomial_product remainder
-one_times = agree_at_bytes (λ b. 1 • b) (λ b. b) refl

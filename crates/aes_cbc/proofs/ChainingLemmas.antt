@@ -1,21 +1,43 @@
 -- Decryption in a chain undoes encryption in it, and so it gives the text again.
-use Rattle.std.proofs.Common.{◌≡◌, ℕ, suc, ◌*◌, ◌/◌, List, [], ◌∷◌, length, refl, sym, ap, ap₂, subst, ◌∙◌, arith, All}
+use Rattle.std.proofs.Common.{◌≡◌, ℕ, suc, ◌+◌, ◌*◌, ◌/◌, List, [], ◌∷◌, length, refl, sym, ap, ap₂, subst, ◌∙◌, arith, All}
 use Rattle.std.specs.List.{concat}
+use Rattle.std.proofs.lemmas.List.{length-append}
 use Rattle.std.proofs.lemmas.List.Elements.{All-cons, All-nil, All-head, All-tail}
-use Rattle.aes_cbc.specs.Block.{sum_of_bytes}
+use Rattle.aes_cbc.specs.Block.{sum_of_bytes, shift_rows}
 use Rattle.aes_cbc.specs.Expansion.{key_expansion}
-use Rattle.aes_cbc.specs.Cipher.{cipher}
+use Rattle.aes_cbc.specs.Cipher.{round_key, cipher}
 use Rattle.aes_cbc.specs.Padding.{padded, IsPaddedText}
 use Rattle.aes_cbc.specs.Chaining.{blocks_of, encrypted_blocks, decrypted_blocks, cbc_encrypted, cbc_decrypted}
 use Rattle.aes_cbc.specs.Laws.{AreBytes, IsBlock, DecryptsTo, DecryptionUndoesEncryption}
-use Rattle.aes_cbc.proofs.BlockLemmas.{IsBlock-sum, sum_twice_of_blocks}
+use Rattle.aes_cbc.proofs.BlockLemmas.{length-block_of, length-sum_of_bytes, IsBlock-sum, sum_twice_of_blocks}
 use Rattle.aes_cbc.proofs.ExpansionLemmas.{AreRoundKeys, AreRoundKeys-key_expansion}
 use Rattle.aes_cbc.proofs.CipherLemmas.{IsBlock-cipher, inv_cipher-cipher}
 use Rattle.aes_cbc.proofs.Chunks.{blocks_of-concat, concat-blocks_of, are_blocks-blocks_of, length-concat_of_blocks, length-chunks}
-use Rattle.aes_cbc.proofs.PaddingLemmas.{are_whole-padded, are_bytes-padded, is_padded-padded, one_text}
+use Rattle.aes_cbc.proofs.PaddingLemmas.{length-padded, are_whole-padded, are_bytes-padded, is_padded-padded, one_text}
+
+-- ---- how long a cipher text is, whatever the key and the vector are
+
+length-cipher : (words : List (List ℕ)) (block : List ℕ) → length (cipher words block) ≡ 16
+unfolding cipher shift_rows round_key
+length-cipher words block =
+    length-sum_of_bytes _ _ (length-block_of _ ∙ sym (length-block_of _)) ∙ length-block_of _
+
+length-concat_encrypted : (words : List (List ℕ)) (before : List ℕ) (blocks : List (List ℕ)) → length (concat (encrypted_blocks words before blocks)) ≡ length blocks * 16
+unfolding encrypted_blocks
+length-concat_encrypted words before [] = refl
+length-concat_encrypted words before (block ∷ blocks) =
+    let chained : List ℕ = cipher words (sum_of_bytes block before) in
+    omega (arith, length-append chained (concat (encrypted_blocks words chained blocks)), length-cipher words (sum_of_bytes block before), length-concat_encrypted words chained blocks)
+
+pub length-cbc_encrypted : (words : List (List ℕ)) (iv text : List ℕ) → length (cbc_encrypted words iv text) ≡ (length text / 16 + 1) * 16
+unfolding cbc_encrypted
+length-cbc_encrypted words iv text =
+    omega (arith, length-concat_encrypted words iv (blocks_of (padded text)), length-chunks (length (padded text) / 16) (padded text), length-padded text)
+
+-- ---- decryption undoes encryption
 
 module _ (words : List (List ℕ)) (keys : AreRoundKeys words) where
-  are_blocks-encrypted_blocks : (before : List ℕ) (blocks : List (List ℕ)) → IsBlock before → All IsBlock blocks → All IsBlock (encrypted_blocks words before blocks)
+  pub are_blocks-encrypted_blocks : (before : List ℕ) (blocks : List (List ℕ)) → IsBlock before → All IsBlock blocks → All IsBlock (encrypted_blocks words before blocks)
   unfolding encrypted_blocks
   are_blocks-encrypted_blocks before [] h k = All-nil IsBlock
   are_blocks-encrypted_blocks before (block ∷ blocks) h k =

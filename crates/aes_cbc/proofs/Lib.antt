@@ -3,6 +3,7 @@ pub mod TableFacts
 pub mod ByteFacts
 pub mod BlockLemmas
 pub mod Mixing
+pub mod ColumnWords
 pub mod ExpansionLemmas
 pub mod CipherLemmas
 pub mod StepLemmas

@@ -12,7 +12,7 @@ use Rattle.aes_cbc.proofs.BlockLemmas.{byte_at-block_of, byte_at-lt, same_block,
 -- ---- sums of four
 
 -- the last one of four comes first
-turn : (a b c d : ℕ) → a ⊕ b ⊕ c ⊕ d ≡ d ⊕ a ⊕ b ⊕ c
+pub turn : (a b c d : ℕ) → a ⊕ b ⊕ c ⊕ d ≡ d ⊕ a ⊕ b ⊕ c
 turn a b c d = sum_comm (a ⊕ b ⊕ c) d ∙ sym (sum_assoc d (a ⊕ b) c) ∙ ap (λ x. x ⊕ c) (sym (sum_assoc d a b))
 
 -- two sums of four, added one by one

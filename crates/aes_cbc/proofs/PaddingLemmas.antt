@@ -8,7 +8,7 @@ use Rattle.aes_cbc.specs.Chaining.{AreWholeBlocks, blocks_of}
 use Rattle.aes_cbc.specs.Laws.{AreBytes}
 use Rattle.aes_cbc.proofs.Chunks.{chunks_more, chunks-append}
 
-length-padded : (text : List ℕ) → length (padded text) ≡ length text + padding_size (length text)
+pub length-padded : (text : List ℕ) → length (padded text) ≡ length text + padding_size (length text)
 unfolding padded
 length-padded text =
     let p : ℕ = padding_size (length text) in

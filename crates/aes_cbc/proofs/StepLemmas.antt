@@ -1,13 +1,13 @@
 -- Each step of a round, from its bytes place by place.
-use Rattle.std.proofs.Common.{◌≡◌, ℕ, zero, suc, ◌+◌, ◌-◌, ◌*◌, ◌/◌, ◌%◌, ◌<◌, List, [], ◌∷◌, length, get_or, refl, sym, ap, ◌∙◌, arith}
-use Rattle.std.proofs.lemmas.List.{ext_get_or, get_or-map}
+use Rattle.std.proofs.Common.{◌≡◌, ℕ, zero, suc, ◌+◌, ◌-◌, ◌*◌, ◌/◌, ◌%◌, ◌<◌, List, [], ◌∷◌, length, get_or, set, inl, inr, refl, sym, ap, ap₂, ◌∙◌, add-zero, arith}
+use Rattle.std.proofs.lemmas.List.{ext_get_or, get_or-map, get_or-set_same, get_or-set_other, length-set}
+use Rattle.std.proofs.lemmas.Bool.{cases_eq}
 use Rattle.std.proofs.lemmas.List.Elements.{All-from_get_or}
-use Rattle.aes_cbc.specs.Field.{◌⊕◌, ◌•◌}
+use Rattle.aes_cbc.specs.Field.{◌⊕◌}
 use Rattle.aes_cbc.specs.Substitution.{sub_byte, inv_sub_byte}
-use Rattle.aes_cbc.specs.Block.{byte_at, block_of, sum_of_bytes, sub_bytes, inv_sub_bytes, shift_rows, inv_shift_rows, mixed, mix_columns, inv_mix_columns}
+use Rattle.aes_cbc.specs.Block.{byte_at, block_of, sum_of_bytes, sub_bytes, inv_sub_bytes, shift_rows, inv_shift_rows, mixed_byte, mixed}
 use Rattle.aes_cbc.specs.Laws.{IsBlock}
-use Rattle.aes_cbc.proofs.ByteFacts.{one_times}
-use Rattle.aes_cbc.proofs.BlockLemmas.{block_of-from, byte_at-lt, length-sum_of_bytes}
+use Rattle.aes_cbc.proofs.BlockLemmas.{block_of-from, length-sum_of_bytes}
 
 -- what the code knows of a block
 pub block_from : (s : List ℕ) → length s ≡ 16 → ((i : ℕ) → get_or s i 0 < 256) → IsBlock s
@@ -40,22 +40,38 @@ pub restored_from : (s t : List ℕ) → length t ≡ 16
 unfolding inv_shift_rows inv_sub_bytes block_of
 restored_from s t lt h = block_of-from (λ r c. inv_sub_byte (byte_at s r ((c + 4 - r) % 4))) t lt h
 
-pub mixed_from : (s t : List ℕ) → IsBlock s → length t ≡ 16
-    → ((k : ℕ) → k < 16 → get_or t k 0 ≡ 2 • byte_at s (k % 4) (k / 4) ⊕ 3 • byte_at s ((k % 4 + 1) % 4) (k / 4) ⊕ byte_at s ((k % 4 + 2) % 4) (k / 4) ⊕ byte_at s ((k % 4 + 3) % 4) (k / 4))
-    → t ≡ mix_columns s
-unfolding mixed
-mixed_from s t block lt h =
-    block_of-from (λ r c. 2 • byte_at s r c ⊕ 3 • byte_at s ((r + 1) % 4) c ⊕ 1 • byte_at s ((r + 2) % 4) c ⊕ 1 • byte_at s ((r + 3) % 4) c) t lt (λ k small.
-    let far : ℕ = byte_at s ((k % 4 + 2) % 4) (k / 4) in
-    let last : ℕ = byte_at s ((k % 4 + 3) % 4) (k / 4) in
-    let front : ℕ = 2 • byte_at s (k % 4) (k / 4) ⊕ 3 • byte_at s ((k % 4 + 1) % 4) (k / 4) in
-    h k small
-    ∙ ap (λ x. front ⊕ x ⊕ last) (sym (one_times far (byte_at-lt s ((k % 4 + 2) % 4) (k / 4) block (omega arith) (omega arith))))
-    ∙ ap (λ x. front ⊕ 1 • far ⊕ x) (sym (one_times last (byte_at-lt s ((k % 4 + 3) % 4) (k / 4) block (omega arith) (omega arith)))))
+-- ---- the columns mixed
 
-pub inv_mixed_from : (s t : List ℕ) → length t ≡ 16
-    → ((k : ℕ) → k < 16 → get_or t k 0 ≡ 14 • byte_at s (k % 4) (k / 4) ⊕ 11 • byte_at s ((k % 4 + 1) % 4) (k / 4) ⊕ 13 • byte_at s ((k % 4 + 2) % 4) (k / 4) ⊕ 9 • byte_at s ((k % 4 + 3) % 4) (k / 4))
-    → t ≡ inv_mix_columns s
+-- the first bytes of a block that is to be made of a function of row and column
+abbrev pub IsFilled : (ℕ → ℕ → ℕ) → List ℕ → ℕ → Type 0
+IsFilled f t n = (length t ≡ 16) × ((k : ℕ) → k < n → get_or t k 0 ≡ f (k % 4) (k / 4))
+
+-- the next byte
+filled_more : (f : ℕ → ℕ → ℕ) (t : List ℕ) (r c x : ℕ) → r < 4 → c < 4 → IsFilled f t (4 * c + r) → x ≡ f r c → IsFilled f (set t (4 * c + r) x) (4 * c + suc r)
+filled_more f t r c x hr hc filled is =
+    let i : ℕ = 4 * c + r in
+    let row : i % 4 ≡ r = omega arith in
+    let column : i / 4 ≡ c = omega arith in
+    let own : get_or (set t i x) i 0 ≡ f (i % 4) (i / 4) =
+    get_or-set_same t i x 0 (omega (arith, filled.0)) ∙ is ∙ ap₂ f (sym row) (sym column) in (
+      length-set t i x ∙ filled.0,
+      λ k small. elim (cases_eq k i) [
+        | inl same ↦ ap (λ j. get_or (set t i x) j 0) same ∙ own ∙ ap (λ j. f (j % 4) (j / 4)) (sym same)
+        | inr other ↦ get_or-set_other t i k x 0 other ∙ filled.1 k (omega (arith, other))
+      ],
+    )
+
+-- the next column
+pub filled_column : (f : ℕ → ℕ → ℕ) (t : List ℕ) (c w x y z : ℕ) → c < 4 → IsFilled f t (4 * c) → w ≡ f 0 c → x ≡ f 1 c → y ≡ f 2 c → z ≡ f 3 c
+    → IsFilled f (set (set (set (set t (4 * c) w) (4 * c + 1) x) (4 * c + 2) y) (4 * c + 3) z) (4 * (c + 1))
+filled_column f t c w x y z hc filled ew ex ey ez =
+    let first = rw (add-zero (4 * c)) at (filled_more f t 0 c w (omega arith) hc (rw (add-zero (4 * c)) filled) ew) in
+    let second = filled_more f _ 1 c x (omega arith) hc first ex in
+    let third = filled_more f _ 2 c y (omega arith) hc second ey in
+    let last = filled_more f _ 3 c z (omega arith) hc third ez in
+    (last.0, λ k small. last.1 k (omega arith))
+
+-- all columns
+pub mixed_from : (a b c d : ℕ) (s t : List ℕ) (n : ℕ) → n ≡ 4 → IsFilled (mixed_byte a b c d s) t (4 * n) → t ≡ mixed a b c d s
 unfolding mixed
-inv_mixed_from s t lt h =
-    block_of-from (λ r c. 14 • byte_at s r c ⊕ 11 • byte_at s ((r + 1) % 4) c ⊕ 13 • byte_at s ((r + 2) % 4) c ⊕ 9 • byte_at s ((r + 3) % 4) c) t lt h
+mixed_from a b c d s t n all filled = block_of-from (mixed_byte a b c d s) t filled.0 (λ k small. filled.1 k (omega arith))

@@ -1,10 +1,11 @@
 -- The tables of the code are those of the definitions, computed at each of the 256 bytes.
-use Rattle.std.proofs.Common.{◌≡◌, ℕ, ◌<◌, List, map, get_or, refl, sym, ap, ◌∙◌, arith}
+use Rattle.std.proofs.Common.{◌≡◌, ℕ, ◌<◌, List, [], ◌∷◌, map, get_or, refl, sym, ap, ◌∙◌, arith}
+use Rattle.std.specs.Int.{w32, from_be_bytes}
 use Rattle.std.specs.List.{range_with_len}
 use Rattle.std.proofs.lemmas.List.FromFn.{get_or-map-range_with_len}
 use Rattle.aes_cbc.specs.Field.{◌•◌, power_of_x, polynomial_product, remainder, inverse}
 use Rattle.aes_cbc.specs.Substitution.{sub_byte, inv_sub_byte, affine, inv_affine, number_of_bits}
-use Rattle.aes_cbc.specs.declared.tables.TheConstants.{S_BOX, INV_S_BOX, TIMES_2, TIMES_3, TIMES_9, TIMES_11, TIMES_13, TIMES_14, ROUND_CONSTANTS}
+use Rattle.aes_cbc.specs.declared.tables.TheConstants.{S_BOX, INV_S_BOX, MIXED, INV_MIXED, ROUND_CONSTANTS}
 
 -- the table of a function's first n values gives its value at each of these places
 from_table_of : (n : ℕ) (table : List ℕ) (f : ℕ → ℕ) → map f (range_with_len 0 n) ≡ table → (b : ℕ) → b < n → get_or table b 0 ≡ f b
@@ -22,29 +23,13 @@ pub at_inv_s_box : (b : ℕ) → b < 256 → get_or INV_S_BOX b 0 ≡ inv_sub_by
 unfolding inv_sub_byte inv_affine number_of_bits inverse ◌•◌ polynomial_product remainder
 at_inv_s_box = from_table INV_S_BOX inv_sub_byte refl
 
-pub at_times_2 : (b : ℕ) → b < 256 → get_or TIMES_2 b 0 ≡ 2 • b
+pub at_mixed : (b : ℕ) → b < 256 → get_or MIXED b 0 ≡ from_be_bytes w32 (2 • b ∷ 1 • b ∷ 1 • b ∷ 3 • b ∷ [])
 unfolding ◌•◌ polynomial_product remainder
-at_times_2 = from_table TIMES_2 (λ b. 2 • b) refl
+at_mixed = from_table MIXED (λ b. from_be_bytes w32 (2 • b ∷ 1 • b ∷ 1 • b ∷ 3 • b ∷ [])) refl
 
-pub at_times_3 : (b : ℕ) → b < 256 → get_or TIMES_3 b 0 ≡ 3 • b
+pub at_inv_mixed : (b : ℕ) → b < 256 → get_or INV_MIXED b 0 ≡ from_be_bytes w32 (14 • b ∷ 9 • b ∷ 13 • b ∷ 11 • b ∷ [])
 unfolding ◌•◌ polynomial_product remainder
-at_times_3 = from_table TIMES_3 (λ b. 3 • b) refl
-
-pub at_times_9 : (b : ℕ) → b < 256 → get_or TIMES_9 b 0 ≡ 9 • b
-unfolding ◌•◌ polynomial_product remainder
-at_times_9 = from_table TIMES_9 (λ b. 9 • b) refl
-
-pub at_times_11 : (b : ℕ) → b < 256 → get_or TIMES_11 b 0 ≡ 11 • b
-unfolding ◌•◌ polynomial_product remainder
-at_times_11 = from_table TIMES_11 (λ b. 11 • b) refl
-
-pub at_times_13 : (b : ℕ) → b < 256 → get_or TIMES_13 b 0 ≡ 13 • b
-unfolding ◌•◌ polynomial_product remainder
-at_times_13 = from_table TIMES_13 (λ b. 13 • b) refl
-
-pub at_times_14 : (b : ℕ) → b < 256 → get_or TIMES_14 b 0 ≡ 14 • b
-unfolding ◌•◌ polynomial_product remainder
-at_times_14 = from_table TIMES_14 (λ b. 14 • b) refl
+at_inv_mixed = from_table INV_MIXED (λ b. from_be_bytes w32 (14 • b ∷ 9 • b ∷ 13 • b ∷ 11 • b ∷ [])) refl
 
 pub at_round_constants : (n : ℕ) → n < 10 → get_or ROUND_CONSTANTS n 0 ≡ power_of_x n
 unfolding power_of_x ◌•◌ polynomial_product remainder

@@ -35,13 +35,22 @@ shift_rows block = block_of (λ row column. byte_at block row ((column + row) % 
 unfoldable pub inv_shift_rows : List ℕ → List ℕ
 inv_shift_rows block = block_of (λ row column. byte_at block row ((column + 4 - row) % 4))
 
--- each column times a matrix over the field, whose first row is these four bytes and whose other rows are
--- the first one moved to the right, going round: so a byte of the product is the sum of those that stand
--- from its own row downwards, each times its coefficient
-unfoldable pub mixed : ℕ → ℕ → ℕ → ℕ → List ℕ → List ℕ
-mixed a b c d block = block_of (λ row column.
+-- the byte in this row and column of the product of a matrix and a block: the sum of the column's bytes from
+-- that row downwards, going round, each times its coefficient
+abbrev pub mixed_byte : ℕ → ℕ → ℕ → ℕ → List ℕ → ℕ → ℕ → ℕ
+mixed_byte a b c d block row column =
     a • byte_at block row column ⊕ b • byte_at block ((row + 1) % 4) column
-    ⊕ c • byte_at block ((row + 2) % 4) column ⊕ d • byte_at block ((row + 3) % 4) column)
+    ⊕ c • byte_at block ((row + 2) % 4) column ⊕ d • byte_at block ((row + 3) % 4) column
+
+-- the four bytes of this column of that product
+abbrev pub mixed_column : ℕ → ℕ → ℕ → ℕ → List ℕ → ℕ → List ℕ
+mixed_column a b c d block column =
+    let byte : ℕ → ℕ = λ row. mixed_byte a b c d block row column in byte 0 ∷ byte 1 ∷ byte 2 ∷ byte 3 ∷ []
+
+-- each column times a matrix over the field, whose first row is these four bytes and whose other rows are the
+-- first one moved to the right, going round (4.3)
+unfoldable pub mixed : ℕ → ℕ → ℕ → ℕ → List ℕ → List ℕ
+mixed a b c d block = block_of (mixed_byte a b c d block)
 
 -- MixColumns (5.1.3)
 abbrev pub mix_columns : List ℕ → List ℕ

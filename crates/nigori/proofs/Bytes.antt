@@ -6,15 +6,12 @@ use Rattle.std.specs.Prelude.{slice_index}
 use Rattle.std.proofs.lemmas.List.Elements.{All-cons, All-nil, All-head, All-tail, All-append}
 use Rattle.base64.specs.GeneralPurpose.{IsBytes}
 use Rattle.sha2.specs.Sha256.{sha256, digest_bytes}
-use Rattle.aes_cbc.specs.Block.{sum_of_bytes}
 use Rattle.aes_cbc.specs.Expansion.{key_expansion}
-use Rattle.aes_cbc.specs.Cipher.{cipher}
 use Rattle.aes_cbc.specs.Padding.{padded}
 use Rattle.aes_cbc.specs.Chaining.{blocks_of, encrypted_blocks, cbc_encrypted}
 use Rattle.aes_cbc.specs.Laws.{AreBytes, IsBlock}
-use Rattle.aes_cbc.proofs.BlockLemmas.{IsBlock-sum}
-use Rattle.aes_cbc.proofs.ExpansionLemmas.{AreRoundKeys, AreRoundKeys-key_expansion}
-use Rattle.aes_cbc.proofs.CipherLemmas.{IsBlock-cipher}
+use Rattle.aes_cbc.proofs.ExpansionLemmas.{AreRoundKeys-key_expansion}
+use Rattle.aes_cbc.proofs.ChainingLemmas.{are_blocks-encrypted_blocks}
 use Rattle.aes_cbc.proofs.Chunks.{are_blocks-blocks_of}
 use Rattle.aes_cbc.proofs.PaddingLemmas.{are_bytes-padded}
 use Rattle.key_derivation.specs.Hmac.{hmac}
@@ -44,19 +41,17 @@ pub are_bytes-hmac : (key text : List ℕ) → AreBytes (hmac sha256 key text)
 unfolding hmac sha256
 are_bytes-hmac key text = are_bytes-digest_bytes _ 8
 
-module _ (words : List (List ℕ)) (keys : AreRoundKeys words) where
-  are_bytes-encrypted_blocks : (before : List ℕ) (blocks : List (List ℕ)) → IsBlock before → All IsBlock blocks → AreBytes (concat (encrypted_blocks words before blocks))
-  unfolding encrypted_blocks
-  are_bytes-encrypted_blocks before [] h k = All-nil (λ b. b < 256)
-  are_bytes-encrypted_blocks before (block ∷ blocks) h k =
-      let sum : List ℕ = sum_of_bytes block before in
-      let is_block : IsBlock (cipher words sum) = IsBlock-cipher words keys sum (IsBlock-sum block before (All-head IsBlock block blocks k) h) in
-      All-append (λ b. b < 256) (cipher words sum) (concat (encrypted_blocks words (cipher words sum) blocks)) is_block.are_bytes
-      (are_bytes-encrypted_blocks (cipher words sum) blocks is_block (All-tail IsBlock block blocks k))
+are_bytes-concat : (blocks : List (List ℕ)) → All IsBlock blocks → AreBytes (concat blocks)
+are_bytes-concat [] h = All-nil (λ b. b < 256)
+are_bytes-concat (block ∷ blocks) h =
+    All-append (λ b. b < 256) block (concat blocks) (All-head IsBlock block blocks h).are_bytes
+    (are_bytes-concat blocks (All-tail IsBlock block blocks h))
 
 -- a cipher text is of bytes
 pub are_bytes-cbc_encrypted : (key iv text : List ℕ) → IsBlock key → IsBlock iv → AreBytes text → AreBytes (cbc_encrypted (key_expansion key) iv text)
 unfolding cbc_encrypted
 are_bytes-cbc_encrypted key iv text is_key is_iv are_bytes =
-    are_bytes-encrypted_blocks (key_expansion key) (AreRoundKeys-key_expansion key is_key) iv (blocks_of (padded text)) is_iv
-    (are_blocks-blocks_of (padded text) (are_bytes-padded text are_bytes))
+    let words : List (List ℕ) = key_expansion key in
+    are_bytes-concat (encrypted_blocks words iv (blocks_of (padded text)))
+    (are_blocks-encrypted_blocks words (AreRoundKeys-key_expansion key is_key) iv (blocks_of (padded text)) is_iv
+    (are_blocks-blocks_of (padded text) (are_bytes-padded text are_bytes)))

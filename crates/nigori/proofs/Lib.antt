@@ -1,4 +1,5 @@
 mod Bytes
+mod Names
 mod Parts
 mod Sealed
 mod Verdicts

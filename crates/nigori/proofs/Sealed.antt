@@ -20,7 +20,7 @@ use Rattle.nigori.proofs.Bytes.{are_bytes_by_place, are_bytes-hmac, are_bytes-cb
 use Rattle.nigori.proofs.Parts.{AreParts}
 use Rattle.nigori.proofs.Verdicts.{one_decoded, one_text_of_bytes}
 
-length-hmac : (key text : List ℕ) → length (hmac sha256 key text) ≡ 32
+pub length-hmac : (key text : List ℕ) → length (hmac sha256 key text) ≡ 32
 unfolding hmac
 length-hmac key text = length-sha256 _
 

@@ -1,8 +1,8 @@
 -- What holds of all keys and texts, by the definitions alone.
-use Rattle.std.specs.Prelude.{◌≡◌, ℕ, List}
+use Rattle.std.specs.Prelude.{◌≡◌, ℕ, List, length}
 use Rattle.aes_cbc.specs.Laws.{AreBytes, IsBlock}
 use Rattle.key_derivation.specs.declared.NigoriKey.{NigoriKey}
-use Rattle.nigori.specs.Sealing.{sealed}
+use Rattle.nigori.specs.Sealing.{sealed, key_name}
 use Rattle.nigori.specs.Unsealing.{Decodes, HoldsText}
 
 -- a blob holds this text under a key, and no other
@@ -15,3 +15,7 @@ abbrev pub UnsealingUndoesSealing : Type 0
 UnsealingUndoesSealing =
     (key : NigoriKey) (plain iv : List ℕ) → IsBlock key.enc → AreBytes plain → IsBlock iv
     → HoldsTextAlone key (sealed key plain iv) plain
+
+-- the name of each key has 88 characters
+abbrev pub NamesHave88Characters : Type 0
+NamesHave88Characters = (key : NigoriKey) → length (key_name key) ≡ 88

@@ -1,5 +1,5 @@
 //! What holds of all keys and texts, by the definitions alone.
-ghost use Rattle.nigori.specs.Laws.{UnsealingUndoesSealing};
+ghost use Rattle.nigori.specs.Laws.{NamesHave88Characters, UnsealingUndoesSealing};
 
 use aes_cbc::decryption_undoes_encryption;
 
@@ -9,3 +9,8 @@ pub fn unsealing_undoes_sealing()
 {
     decryption_undoes_encryption();
 }
+
+/// The name of a key has 88 characters.
+pub fn names_have_88_characters()
+    ensures { NamesHave88Characters }
+{}

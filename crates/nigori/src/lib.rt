@@ -7,7 +7,7 @@ mod sealing;
 mod unsealing;
 
 pub use fault::UnsealFault;
-pub use laws::unsealing_undoes_sealing;
+pub use laws::{names_have_88_characters, unsealing_undoes_sealing};
 pub use sealing::{key_name, seal};
 pub use unsealing::unseal;
 

@@ -150,8 +150,9 @@ fn a_bad_length_is_told(rt: HostRuntime) -> Result<(), Fail> {
 }
 
 #[test]
-fn the_law_is_called_and_faults_printed(rt: HostRuntime) -> Result<(), Fail> {
+fn the_laws_are_called_and_faults_printed(rt: HostRuntime) -> Result<(), Fail> {
     unsealing_undoes_sealing();
+    names_have_88_characters();
     let alloc = rt.alloc();
     let tags = UnsealFault::BadTag {
         found: [0; 32],

@@ -1,6 +1,13 @@
-use Rattle.std.proofs.Common.{arith}
-use Rattle.aes_cbc.proofs.StepLemmas.{block_from, mixed_from}
+use Rattle.std.proofs.Common.{◌≡◌, ℕ, get_or, ap, arith}
+use Rattle.aes_cbc.specs.Block.{mixed_byte, mixed_column}
+use Rattle.aes_cbc.proofs.StepLemmas.{filled_column, mixed_from}
 use Rattle.aes_cbc.proofs.steps.mix_columns.Goals as goal
 
+pub columns-preserved : goal.columns-preserved
+columns-preserved c =
+    let is : (r : ℕ) → get_or c.mixed_column.result r 0 ≡ get_or (mixed_column 2 3 1 1 c.args.block.now c.columns.column) r 0 =
+    λ r. ap (λ t. get_or t r 0) c.mixed_column.ensures in
+    filled_column (mixed_byte 2 3 1 1 c.args.block.now) c.columns.state c.columns.column _ _ _ _ (omega arith) c.columns.invariant (is 0) (is 1) (is 2) (is 3)
+
 pub returns : goal.returns
-returns c = mixed_from c.args.block.now c.bytes.state (block_from c.args.block.now c.told-block c.fits-block) c.bytes.invariant.0 (λ k small. c.bytes.invariant.1 k (omega arith))
+returns c = mixed_from 2 3 1 1 c.args.block.now c.columns.state c.columns.column (omega arith) c.columns.invariant

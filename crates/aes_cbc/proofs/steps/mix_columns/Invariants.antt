@@ -1,7 +1,7 @@
-use Rattle.std.proofs.Common.{◌≡◌, ℕ, ◌+◌, ◌/◌, ◌%◌, ◌<◌, length, get_or}
-use Rattle.aes_cbc.specs.Field.{◌⊕◌, ◌•◌}
-use Rattle.aes_cbc.specs.Block.{byte_at}
+use Rattle.std.proofs.Common.{◌*◌}
+use Rattle.aes_cbc.specs.Block.{mixed_byte}
+use Rattle.aes_cbc.proofs.StepLemmas.{IsFilled}
 use Rattle.aes_cbc.proofs.steps.mix_columns.Given as goal
 
-abbrev pub invariant-bytes : goal.invariant-bytes
-invariant-bytes l = (length l.state ≡ 16) × ((k : ℕ) → k < l.i → get_or l.state k 0 ≡ 2 • byte_at l.block (k % 4) (k / 4) ⊕ 3 • byte_at l.block ((k % 4 + 1) % 4) (k / 4) ⊕ byte_at l.block ((k % 4 + 2) % 4) (k / 4) ⊕ byte_at l.block ((k % 4 + 3) % 4) (k / 4))
+abbrev pub invariant-columns : goal.invariant-columns
+invariant-columns l = IsFilled (mixed_byte 2 3 1 1 l.block) l.state (4 * l.column)
