@@ -31,6 +31,14 @@ never_told : (told : Result (List ℕ) AnyFault) → any_answer (back told) ≢ 
 never_told told differs answer same =
     differs (ap (λ other. any_answer (back other)) (sym same) ∙ ap any_answer (back_again answer) ∙ same)
 
+lack_differs : (name : List ℕ) → any_answer (back (Err (NoKey name))) ≢ Err (NoKey name)
+unfolding back
+lack_differs name same = cc
+
+memory_differs : any_answer (back (Err (Unseal UnsealNoMemory))) ≢ Err (Unseal UnsealNoMemory)
+unfolding back
+memory_differs same = cc
+
 told_exactly : (result answer : Result (List ℕ) UnsealFault) (Holds : Type 0) → UnsealsExactly result answer Holds →
     AnswersExactly NoMemory (any_answer result) (any_answer answer) Holds
 told_exactly result answer Holds exactly some =
@@ -53,12 +61,6 @@ told_answers key blob result told is text not_base64 bad_length bad_tag bad_padd
       never_lacks = λ name. never_told (Err (NoKey name)) (lack_differs name) result;
     })
   where
-    lack_differs : (name : List ℕ) → any_answer (back (Err (NoKey name))) ≢ Err (NoKey name)
-    unfolding back
-    lack_differs name same = cc
-    memory_differs : any_answer (back (Err (Unseal UnsealNoMemory))) ≢ Err (Unseal UnsealNoMemory)
-    unfolding back
-    memory_differs same = cc
     of_fault : (fault : UnsealFault) → AnswersExactly NoMemory (any_answer result) (Err (Unseal fault)) (IsUnsealFault key blob fault)
     of_fault NotBase64 = told_exactly result (Err NotBase64) (IsNoBase64 blob) not_base64
     of_fault (BadLength len) = told_exactly result (Err (BadLength len)) (Decodes blob (HasBadLength len)) (bad_length len)
@@ -66,6 +68,13 @@ told_answers key blob result told is text not_base64 bad_length bad_tag bad_padd
         told_exactly result (Err (BadTag found computed)) (Decodes blob (HasBadTag key found computed)) (bad_tag found computed)
     of_fault BadPadding = told_exactly result (Err BadPadding) (Decodes blob (HasBadPadding key)) bad_padding
     of_fault UnsealNoMemory = λ some. (never_told (Err (Unseal UnsealNoMemory)) memory_differs result, λ never. absurd never)
+
+-- want of memory is told as such
+pub memory_as_such : (key : NigoriKey) (blob : List ℕ) (result : Result (List ℕ) AnyFault) → IsUnsealed key blob result → result ≢ Err (Unseal UnsealNoMemory)
+memory_as_such key blob result is same = (is.fault UnsealNoMemory two_faults).0 same
+  where
+    two_faults : result ≡ Err NoMemory → ⊥
+    two_faults memory = cc
 
 module _ {A : Type 0} (bag : Bag) (name : List ℕ) where
   -- what is exact of a key is exact of the bag's key of a name
@@ -94,22 +103,9 @@ module _ {A : Type 0} (bag : Bag) (name : List ℕ) where
       (other : List ℕ) → AnswersExactly NoMemory result (Err (NoKey other)) (IsLacked bag name other)
   lack_told none fault told result is other some =
       let is_told : fault ≡ NoKey name = told (λ same. some (is ∙ ap Err same)) in (
-        λ same. (one_name (sym same ∙ is ∙ ap Err is_told), lacked bag.keys name none),
+        λ same. (one_name same (is ∙ ap Err is_told), lacked bag.keys name none),
         λ lacks. is ∙ ap Err (is_told ∙ ap NoKey (sym lacks.0)),
       )
     where
-      one_name : Err {A} (NoKey other) ≡ Err (NoKey name) → other ≡ name
-      one_name same = cc
-
-  -- with no key of the name, nothing else is told
-  pub nothing_else_told : key_named bag.keys name ≡ None → (fault : AnyFault) → (fault ≢ NoMemory → fault ≡ NoKey name) →
-      (result answer : Result A AnyFault) → result ≡ Err fault → answer ≢ Err (NoKey name) →
-      (Holds : NigoriKey → Type 0) → AnswersExactly NoMemory result answer (OfKey bag name Holds)
-  nothing_else_told none fault told result answer is differs Holds some =
-      let is_told : fault ≡ NoKey name = told (λ same. some (is ∙ ap Err same)) in (
-        λ same. absurd (differs (sym same ∙ is ∙ ap Err is_told)),
-        λ of. absurd (none_found of.0 (sym none ∙ of.1)),
-      )
-    where
-      none_found : (key : NigoriKey) → None ≡ Some key → ⊥
-      none_found key same = cc
+      one_name : result ≡ Err (NoKey other) → result ≡ Err (NoKey name) → other ≡ name
+      one_name same told = cc

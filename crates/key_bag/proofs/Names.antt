@@ -1,9 +1,9 @@
 -- Look-ups by name.
 use Rattle.std.proofs.Common.{◌≡◌, ℕ, Bool, true, false, if◌then◌else◌, List, [], ◌∷◌, ◌++◌, Option, None, Some, map, sym, ◌∙◌, subst, inl, inr, ◌⊎◌, ◌↔◌, IsTrue, is_some, arith}
-use Rattle.std.specs.List.{Contains}
+use Rattle.std.specs.List.{All, Contains}
 use Rattle.std.specs.Str.{bytes_eq}
 use Rattle.std.proofs.lemmas.Slice.Eq.{bytes_eq-Decides}
-use Rattle.std.proofs.lemmas.List.Elements.{Contains-append_left, Contains-append_right, Contains-push, Contains-append_cases, Contains-push_cases}
+use Rattle.std.proofs.lemmas.List.Elements.{All-head, All-tail, Contains-append_left, Contains-append_right, Contains-push, Contains-append_cases, Contains-push_cases}
 use Rattle.key_derivation.specs.declared.NigoriKey.{NigoriKey}
 use Rattle.key_bag.specs.declared.named.NamedKey.{NamedKey}
 use Rattle.key_bag.specs.Bags.{key_named}
@@ -28,6 +28,25 @@ pub found_stands : (keys : List NamedKey) (name : List ℕ) (key : NigoriKey) �
 found_stands [] name key found = cc
 found_stands (named ∷ keys) name key found =
     stands_by_test named keys name key (bytes_eq named.name name) (λ _. bytes_eq named.name name) (found_stands keys name key) found
+
+holds_by_test : (P : NigoriKey → Type 0) (named : NamedKey) (rest : Option NigoriKey) (key : NigoriKey) (test : Bool) → P named.key →
+    (rest ≡ Some key → P key) → (if test then Some named.key else rest) ≡ Some key → P key
+holds_by_test P named rest key true head holds found = subst P (one_key found) head
+  where
+    one_key : Some named.key ≡ Some key → named.key ≡ key
+    one_key same = cc
+holds_by_test P named rest key false head holds found = holds found
+
+-- what holds of each key holds of one that is found
+pub found_holds : (P : NigoriKey → Type 0) (keys : List NamedKey) (name : List ℕ) (key : NigoriKey) → All (λ named. P named.key) keys →
+    key_named keys name ≡ Some key → P key
+found_holds P [] name key all found = absurd (none_found found)
+  where
+    none_found : None ≡ Some key → ⊥
+    none_found same = cc
+found_holds P (named ∷ keys) name key all found =
+    holds_by_test P named (key_named keys name) key (bytes_eq named.name name) (All-head (λ named. P named.key) named keys all)
+    (found_holds P keys name key (All-tail (λ named. P named.key) named keys all)) found
 
 head_or_rest : (first name : List ℕ) (names : List (List ℕ)) → Contains (first ∷ names) name → (first ≡ name) ⊎ Contains names name
 head_or_rest first name names stands = by_cases (Contains-append_cases (first ∷ []) names name stands)
