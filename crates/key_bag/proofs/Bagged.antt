@@ -15,7 +15,6 @@ use Rattle.key_bag.proofs.Names.{lacked}
 names_after : (bag : Bag) (key : NigoriKey) → names_of bag ++ key_name key ∷ [] ≡ names_of (with_key bag key)
 names_after bag key = sym (map-append (λ named. named.name) bag.keys (named_by_itself key ∷ []))
 
-
 still_stands : (bag : Bag) (key : NigoriKey) (default : Option (List ℕ)) → IfSome default (HasName bag) → IfSome default (HasName (with_key bag key))
 still_stands bag key None stands = tt
 still_stands bag key (Some name) stands =
@@ -39,8 +38,10 @@ bag_with_push old new key named name is is_own blocks is_name lacks pushed kept 
   where
     own_name : name ≡ key_name key
     own_name = is_name ∙ ap (λ named. named.name) is_own
+
     never : false ≡ true → ⊥
     never same = cc
+
     same : with_key old key ≡ new
     same =
         ap (λ (named : NamedKey). record old { keys = old.keys ++ named ∷ [] }) (sym is_own)

@@ -54,6 +54,7 @@ head_or_rest first name names stands = by_cases (Contains-append_cases (first �
     of_head : Contains [] name ⊎ (first ≡ name) → (first ≡ name) ⊎ Contains names name
     of_head (inl none) = absurd (omega (arith, none.1))
     of_head (inr same) = inl same
+
     by_cases : Contains (first ∷ []) name ⊎ Contains names name → (first ≡ name) ⊎ Contains names name
     by_cases (inl head) = of_head (Contains-push_cases [] first name head)
     by_cases (inr rest) = inr rest
