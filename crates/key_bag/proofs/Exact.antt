@@ -1,12 +1,12 @@
 -- Exact answers of calls that look a key up.
-use Rattle.std.proofs.Common.{◌≡◌, ◌≢◌, ◌↔◌, ℕ, List, Option, None, Some, Result, Ok, Err, refl, sym, ap, subst, ◌∙◌}
+use Rattle.std.proofs.Common.{◌≡◌, ◌≢◌, ℕ, List, None, Some, Result, Ok, Err, refl, sym, ap, subst, ◌∙◌}
 use Rattle.key_derivation.specs.declared.NigoriKey.{NigoriKey}
 use Rattle.nigori.specs.Unsealing.{Decodes, IsNoBase64, HasBadLength, HasBadTag, HasBadPadding, HoldsText, AnswersExactly as UnsealsExactly}
 use Rattle.nigori.specs.declared.fault.UnsealFault.{UnsealFault}
 use Rattle.nigori.specs.declared.fault.UnsealFault.TheVariants.{NotBase64, BadLength, BadTag, BadPadding, NoMemory as UnsealNoMemory}
 use Rattle.key_bag.specs.declared.fault.AnyFault.{AnyFault}
 use Rattle.key_bag.specs.declared.fault.AnyFault.TheVariants.{NoKey, Unseal, NoMemory}
-use Rattle.key_bag.specs.Bags.{Bag, key_named, HasName}
+use Rattle.key_bag.specs.Bags.{Bag, key_named}
 use Rattle.key_bag.specs.Texts.{OfKey, IsLacked, IsUnsealFault, AnswersExactly, any_answer, IsUnsealed}
 use Rattle.key_bag.proofs.Names.{found_stands, lacked}
 

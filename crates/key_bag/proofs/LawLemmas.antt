@@ -1,5 +1,5 @@
 -- What holds of all bags.
-use Rattle.std.proofs.Common.{◌≡◌, ℕ, List, Option, Some, Result, Ok, length, map, sym, subst, ◌∙◌}
+use Rattle.std.proofs.Common.{◌≡◌, ℕ, List, Some, Ok, sym, subst, ◌∙◌}
 use Rattle.std.specs.List.{All, AllByRecursion}
 use Rattle.std.proofs.lemmas.List.{length-map}
 use Rattle.std.proofs.lemmas.List.Elements.{All-map, All-weaker, recursion_from_All}
@@ -9,9 +9,8 @@ use Rattle.nigori.specs.Unsealing.{Decodes, HoldsText}
 use Rattle.nigori.specs.Laws.{UnsealingUndoesSealing, HoldsTextAlone}
 use Rattle.sync_specifics.specs.Keys.{SaysKeys}
 use Rattle.sync_specifics.specs.Laws.{IsKey, BagsAreRead, SayOneThing}
-use Rattle.key_bag.specs.declared.named.NamedKey.{NamedKey}
 use Rattle.key_bag.specs.Bags.{Bag, IsBag, IsNamed, HasBlocks, names_of, keys_of, key_named, packed}
-use Rattle.key_bag.specs.Texts.{UnsealsTo, sealed_under}
+use Rattle.key_bag.specs.Texts.{sealed_under}
 use Rattle.key_bag.specs.Laws.{PackedKeysAreUnpacked, SealedTextsAreUnsealed, UnsealsToAlone}
 use Rattle.key_bag.proofs.Names.{found_holds}
 

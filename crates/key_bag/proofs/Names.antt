@@ -1,5 +1,5 @@
 -- Look-ups by name.
-use Rattle.std.proofs.Common.{◌≡◌, ℕ, Bool, true, false, if◌then◌else◌, List, [], ◌∷◌, ◌++◌, Option, None, Some, map, sym, ◌∙◌, subst, inl, inr, ◌⊎◌, ◌↔◌, IsTrue, is_some, arith}
+use Rattle.std.proofs.Common.{◌≡◌, ℕ, Bool, true, false, if◌then◌else◌, List, [], ◌∷◌, Option, None, Some, map, sym, subst, inl, inr, ◌⊎◌, ◌↔◌, IsTrue, is_some, arith}
 use Rattle.std.specs.List.{All, Contains}
 use Rattle.std.specs.Str.{bytes_eq}
 use Rattle.std.proofs.lemmas.Slice.Eq.{bytes_eq-Decides}

@@ -1,5 +1,5 @@
 -- Texts that are sealed and unsealed with the keys of a bag.
-use Rattle.std.specs.Prelude.{◌≡◌, ◌≢◌, ◌↔◌, ℕ, List, Option, Some, Result, Ok, Err}
+use Rattle.std.specs.Prelude.{◌≡◌, ◌≢◌, ◌↔◌, ℕ, List, Some, Result, Ok, Err}
 use Rattle.key_derivation.specs.declared.NigoriKey.{NigoriKey}
 use Rattle.nigori.specs.Sealing.{sealed}
 use Rattle.nigori.specs.Unsealing.{Decodes, IsNoBase64, HasBadLength, HasBadTag, HasBadPadding, HoldsText}

@@ -4,7 +4,7 @@ ghost use Rattle.key_bag.specs.Bags.{empty_bag, key_named, names_of, HasName, wi
 ghost use Rattle.key_bag.specs.Texts.{AnswersExactly, IsLacked};
 
 use crate::fault::DefaultFault;
-use crate::named::{NamedKey, key_named, named_by_itself, names};
+use crate::named::{NamedKey, append, key_named, named_by_itself, names};
 use key_derivation::NigoriKey;
 use std::alloc::Global;
 use std::marker::Model;
@@ -88,7 +88,7 @@ impl KeyBag {
         if self.has(named.name.as_slice()) {
             return Ok(Added::Present);
         }
-        self.keys.push(named)?;
+        append(&mut self.keys, named)?;
         Ok(Added::New)
     }
 

@@ -1,5 +1,5 @@
 //! Keys with their names.
-ghost use Rattle.std.specs.Prelude.{◌≡◌, map, IfOk};
+ghost use Rattle.std.specs.Prelude.{◌≡◌, ◌∷◌, ◌++◌, [], map, IfOk, OnOk, OnErr};
 ghost use Rattle.aes_cbc.specs.Laws.{IsBlock};
 ghost use Rattle.key_bag.specs.Bags.{key_named, named_by_itself, HasBlocks};
 
@@ -25,6 +25,15 @@ pub(crate) fn key_named(keys: &[NamedKey], name: &[u8]) -> Option<NigoriKey>
         }
     }
     None
+}
+
+// One more key at the end.
+pub(crate) fn append(keys: &mut Vec<NamedKey>, named: NamedKey) -> Result<(), NoMemory>
+    ensures ok { OnOk result (keys.new.items ≡ keys.old.items ++ named ∷ []) }
+    ensures err { OnErr result (keys.new.items ≡ keys.old.items) }
+{
+    keys.push(named)?;
+    Ok(())
 }
 
 // The names of some keys.
