@@ -16,7 +16,7 @@ OfKey bag name Holds = (key : NigoriKey) × (key_named bag.keys name ≡ Some ke
 
 -- this is the name that is asked for, and the bag lacks it
 abbrev pub IsLacked : Bag → List ℕ → List ℕ → Type 0
-IsLacked bag asked name = (name ≡ asked) × (HasName bag asked → ⊥)
+IsLacked bag asked name = (name ≡ asked) × ¬ HasName bag asked
 
 -- a text sealed under a key, with this name of it
 abbrev pub sealed_under : List ℕ → NigoriKey → List ℕ → List ℕ → Sealed

@@ -20,6 +20,8 @@ pub enum Added {
 
 /// The keys of a profile in the order of their adding, each under the name that is computed from it, and the
 /// default one, if there is one. A bag is short: a look-up goes through it.
+///
+/// Contracts see it as a `Bag`, and `len` and others tell what holds of each one.
 #[derive(Debug, Drop)]
 pub struct KeyBag {
     pub(crate) keys: Vec<NamedKey>,

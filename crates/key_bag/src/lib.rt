@@ -11,7 +11,6 @@ mod texts;
 pub use bag::{Added, KeyBag};
 pub use fault::{AnyFault, DefaultFault, SealFault};
 pub use laws::{packed_keys_are_unpacked, sealed_texts_are_unsealed};
-pub use named::NamedKey;
 
 #[cfg(test)]
 mod tests;

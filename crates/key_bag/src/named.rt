@@ -8,9 +8,9 @@ use nigori::key_name;
 use std::alloc::Global;
 use wire_fields::{List, NoMemory, Octets};
 
-/// A key and its name.
+/// A key and its name, which is computed from it.
 #[derive(Debug, Drop)]
-pub struct NamedKey {
+pub(crate) struct NamedKey {
     pub name: Octets,
     pub key: NigoriKey,
 }
