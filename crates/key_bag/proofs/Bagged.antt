@@ -8,7 +8,7 @@ use Rattle.std.proofs.lemmas.List.Quantifiers.{all_pairs_push}
 use Rattle.key_derivation.specs.declared.NigoriKey.{NigoriKey}
 use Rattle.nigori.specs.Sealing.{key_name}
 use Rattle.key_bag.specs.declared.named.NamedKey.{NamedKey}
-use Rattle.key_bag.specs.Bags.{Bag, IsBag, IsNamed, HasBlocks, HasName, names_of, named_by_itself, key_named, with_key, with_default}
+use Rattle.key_bag.specs.Bags.{Bag, IsBag, IsNamed, HasBlocks, HasName, names_of, named_by_itself, key_named, with_key}
 use Rattle.key_bag.proofs.Names.{lacked}
 
 -- the names after one more key
@@ -47,10 +47,6 @@ bag_with_push old new key named name is is_own blocks is_name lacks pushed kept 
         ap (λ (named : NamedKey). record old { keys = old.keys ++ named ∷ [] }) (sym is_own)
         ∙ ap (λ (keys : List NamedKey). record old { keys = keys }) (sym pushed)
         ∙ ap (λ (default : Option (List ℕ)). record new { default = default }) (sym kept)
-
--- a bag with another default, which is one of its names
-pub bag_with_default : (bag : Bag) (name : List ℕ) → IsBag bag → HasName bag name → IsBag (with_default bag name)
-bag_with_default bag name is stands = record { named = is.named; distinct = is.distinct; default_stands = stands }
 
 default_of : (bag : Bag) (name : List ℕ) (default : Option (List ℕ)) → IfSome default (HasName bag) → default ≡ Some name → HasName bag name
 default_of bag name None stands same = cc
