@@ -1,0 +1,4 @@
+mod Names
+mod Bagged
+mod Exact
+mod LawLemmas

@@ -1,0 +1,3 @@
+pub mod Bags
+pub mod Texts
+pub mod Laws

@@ -1,0 +1,71 @@
+// Keys and their names, and texts sealed by an independent model: the parts of the key, the initialization
+// vector, the text and the blob.
+pub(super) const NAMED: [([u128; 3], &[u8; 88]); 3] = [
+    (
+        [
+            0x30ad91052046ec068592c217b207e262,
+            0x6e964bae613e0d69efb727e90009b10e,
+            0x87088342d6dd05bbe008c5d7dc0114e2,
+        ],
+        b"UNsoFwBePrv+qkxe9sWxHwAElxogOaR9hFnG+1cZpF3bTdb8hIKo2mBJkojBQe5pYz5xiXn+9eMQ+AM86T/JWA==",
+    ),
+    (
+        [
+            0x0f53363963997fc433ad7c5b8c777e57,
+            0x4bb0fa2370f6585a0146fdf255646201,
+            0x12cb7481e22825161ea206cec9d4e4b0,
+        ],
+        b"exlCsZX0n8jw/Rj+oKDIunFAHN0WXIHz4YOWIXBRCBmKEWHhhSikdMCqhE5/gIlINyyDZZ8TWWl/K0jWu0ectg==",
+    ),
+    (
+        [
+            0x6447428026533c99389970d00e32cf2d,
+            0x725c905cda6428ee47502c98dd28dd6e,
+            0x85a715f8d777cde575a4139d82781f1d,
+        ],
+        b"7c+zRHijEdEnEG9mW8ZPMNZjdZhDNIdqcpsvDk70zKZiqvvhwbh0JpUALDlXgth41asYC0/nV93AQxAnz1VHmw==",
+    ),
+];
+
+pub(super) const SEALED: [([u128; 3], u128, &[u8], &[u8]); 4] = [
+    (
+        [
+            0xf91ee25e5635a41304781da877e6e5e8,
+            0x0454043a777fc92e8fc66254d185ee35,
+            0x4c5ef05e33168303c892d1e3ed90f193,
+        ],
+        0x06dfe04fa2494bfa77de8d14e2f8b319,
+        b"",
+        b"Bt/gT6JJS/p33o0U4vizGSDEOjNwf7sv+EPyXJGDTLp3v2HInM7M+9yuFOoDOQJqFfwbpoJpfuHqvZcoI0Y5FA==",
+    ),
+    (
+        [
+            0x55813aedeeeb1cf97c6b86a9c38e9c34,
+            0xf3d85352ec503e168137939f85fc7667,
+            0x8516d613a1127030dceaf9a854ee5c30,
+        ],
+        0x9b01dbe7406382d984a4f88379923424,
+        b"\x26",
+        b"mwHb50BjgtmEpPiDeZI0JEhZ19Z3C18zXOnLxEbrZJuZ4Huk/ZVEwKsV7+DUu2SWun6ay/cKdQiijaEPVoYO4w==",
+    ),
+    (
+        [
+            0xd5dfd816e9aa25636f5df592698f3cfa,
+            0x2fe1c2f196ec84b292addc070a29e8ae,
+            0x1f21c09bb53c2582cd1c0908b3237ddf,
+        ],
+        0x8d4135cb5a50b917c1129beae618d5d5,
+        b"\x2e\xb5\xd5\x69\xbb\x25\x6a\xfa\x12\x47\x19\x8d\x27\xda\x1d\x49",
+        b"jUE1y1pQuRfBEpvq5hjV1Qy+9m9s71VSiMzDSPxL1Odh/kAsovk0DuFILozTw5APAh44PxB4xYUPM2BinYYYWe5FeTuXXCWIdcqzg/dHmMg=",
+    ),
+    (
+        [
+            0x8972c22832e8a929565b5c256d53db48,
+            0x6f4fc3bc0b514fe91f7d711b7c533a52,
+            0x149777d414afdd274211be2db6d61031,
+        ],
+        0x700e7f2bba782612d54870293ca9c5d2,
+        b"\x3b\x2b\x1d\x75\xe6\x3a\xb2\x52\x50\x3e\x51\x94\x6b\x1d\xbd\x14\xd7",
+        b"cA5/K7p4JhLVSHApPKnF0jcDSjKw+I8QuuPR/3/WCfgDVsptUpbd9FYERQvGkscDOWItdQm7b5yWtSQE1BBiA0wYkA19oPZtVhiPS72cpUE=",
+    ),
+];
