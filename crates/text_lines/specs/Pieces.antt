@@ -1,8 +1,8 @@
 -- A line as pieces, one after another.
 use Rattle.std.specs.Prelude.{ℕ, List}
 use Rattle.std.specs.Fmt.{decimal, signed_decimal}
-use Rattle.report_lines.specs.declared.pieces.Piece.{Piece}
-use Rattle.report_lines.specs.declared.pieces.Piece.TheVariants.{Text, Word, Number, Signed}
+use Rattle.text_lines.specs.declared.pieces.Piece.{Piece}
+use Rattle.text_lines.specs.declared.pieces.Piece.TheVariants.{Text, Word, Number, Signed}
 use Rattle.sync_model.specs.Text.{text_word}
 
 -- what a piece adds to a text

@@ -3,10 +3,10 @@ ghost use Rattle.std.specs.List.{flat_map};
 ghost use Rattle.std.specs.Fmt.{decimal, signed_decimal, digit_glyph};
 ghost use Rattle.client_tags.specs.Tags.{percent_escape};
 ghost use Rattle.sync_model.specs.Text.{is_plain, byte_text, text_word, kind_word};
-ghost use Rattle.report_lines.specs.Continued.{Continues};
+ghost use Rattle.text_lines.specs.Continued.{Continues};
 
+use client_tags::Kind;
 use itoa::Buffer;
-use sync_model::Kind;
 use wire_fields::NoMemory;
 
 /// Bytes as they are.

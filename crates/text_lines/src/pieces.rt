@@ -1,7 +1,7 @@
 ghost use Rattle.std.specs.Prelude.{◌≡◌, ◌++◌, OnOk, OnErr};
 ghost use Rattle.std.specs.List.{flat_map};
-ghost use Rattle.report_lines.specs.Continued.{Continues};
-ghost use Rattle.report_lines.specs.Pieces.{piece_text};
+ghost use Rattle.text_lines.specs.Continued.{Continues};
+ghost use Rattle.text_lines.specs.Pieces.{piece_text};
 
 use crate::words::{write_number, write_signed, write_text, write_word};
 use wire_fields::NoMemory;
