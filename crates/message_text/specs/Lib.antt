@@ -1,0 +1,4 @@
+pub mod Messages
+pub mod Lines
+pub mod Texts
+pub mod Faults
