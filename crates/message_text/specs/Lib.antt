@@ -2,3 +2,4 @@ pub mod Messages
 pub mod Lines
 pub mod Texts
 pub mod Faults
+pub mod Laws
