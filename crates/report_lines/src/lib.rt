@@ -5,16 +5,13 @@
 #![tactic(auto)]
 
 mod lines;
-mod pieces;
 mod values;
-mod words;
 
 pub use lines::{
     SideCounts, write_client_line, write_entity_line, write_events_line, write_fate_line,
     write_server_line, write_side_line, write_totals_line, write_value_line,
 };
 pub use values::{write_lock, write_value};
-pub use words::{write_kind, write_number, write_word};
 
 #[cfg(test)]
 mod tests;

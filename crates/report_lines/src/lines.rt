@@ -3,12 +3,11 @@ ghost use Rattle.std.specs.Fmt.{decimal};
 ghost use Rattle.sync_model.specs.Text.{kind_word};
 ghost use Rattle.sync_model.specs.Settings.{names};
 ghost use Rattle.sync_model.specs.Report.{pass_number, row_word, lock_text, value_text, events_text, server_text, entity_line, client_text, side_text, value_line_text, fate_text, fate_line, totals_text};
-ghost use Rattle.report_lines.specs.Continued.{Continues};
+ghost use Rattle.text_lines.specs.Continued.{Continues};
 
-use crate::pieces::{Piece, write_pieces};
 use crate::values::{write_lock, write_value};
-use crate::words::{kind_name, write_text};
 use sync_model::{Content, Entry, Fate, Kind, Row, Value};
+use text_lines::{Piece, kind_name, write_pieces, write_text};
 use wire_fields::NoMemory;
 
 /// What the lines of a client's type begin with.
@@ -29,7 +28,7 @@ fn write_owner(out: &mut Vec<u8>, subject: &[u8], client: u32, kind: Kind) -> Re
 }
 
 /// A value as the last words of a line, and the line's end.
-#[tactic(auto, using(crate::proofs::Continuing::continues_after))]
+#[tactic(auto, using(text_lines::proofs::Continuing::continues_after))]
 fn write_last_value(out: &mut Vec<u8>, value: &Value) -> Result<(), NoMemory>
     ensures ok { OnOk result (out.new.items ≡ out.old.items ++ 32 ∷ value_text names (pass_number names []) value.now ++ 10 ∷ []) }
     ensures err { OnErr result (Continues out.old.items out.new.items) }
@@ -76,7 +75,7 @@ pub fn write_server_line(out: &mut Vec<u8>, version: u64, keys: u64) -> Result<(
 }
 
 /// A write of this version, in time linear in its texts.
-#[tactic(auto, using(crate::proofs::Continuing::continues_after), unfolding(sync_model::specs::Report::entity_line, sync_model::specs::Settings::names))]
+#[tactic(auto, using(text_lines::proofs::Continuing::continues_after), unfolding(sync_model::specs::Report::entity_line, sync_model::specs::Settings::names))]
 pub fn write_entity_line(
     out: &mut Vec<u8>,
     version: u64,
@@ -135,7 +134,7 @@ pub struct SideCounts {
 }
 
 /// What a client's side of a type counts.
-#[tactic(auto, using(crate::proofs::Continuing::continues_after), unfolding(sync_model::specs::Report::side_text))]
+#[tactic(auto, using(text_lines::proofs::Continuing::continues_after), unfolding(sync_model::specs::Report::side_text))]
 pub fn write_side_line(
     out: &mut Vec<u8>,
     number: u32,
@@ -172,7 +171,7 @@ pub fn write_side_line(
 
 /// What a client has of a key: the version that it knows, and its value. It takes time linear in the
 /// texts.
-#[tactic(auto, using(crate::proofs::Continuing::continues_after), unfolding(sync_model::specs::Report::value_line_text, sync_model::specs::Settings::names))]
+#[tactic(auto, using(text_lines::proofs::Continuing::continues_after), unfolding(sync_model::specs::Report::value_line_text, sync_model::specs::Settings::names))]
 pub fn write_value_line(
     out: &mut Vec<u8>,
     number: u32,
@@ -251,7 +250,7 @@ fn write_fate(out: &mut Vec<u8>, fate: Option<Fate>) -> Result<(), NoMemory>
 }
 
 /// What became of a client's edit, by the number that counts the client's edits of the type.
-#[tactic(auto, using(crate::proofs::Continuing::continues_after), unfolding(sync_model::specs::Report::fate_line))]
+#[tactic(auto, using(text_lines::proofs::Continuing::continues_after), unfolding(sync_model::specs::Report::fate_line))]
 pub fn write_fate_line(
     out: &mut Vec<u8>,
     client: u32,

@@ -6,26 +6,6 @@ use sync_values::{Password, Preference};
 use wire_fields::{NoMemory, Octets};
 
 #[test]
-fn words(rt: HostRuntime) -> Result<(), Fail> {
-    let cases: [(&[u8], &[u8]); 8] = [
-        (b"", b"-"),
-        (b"-", b"%2D"),
-        (b"--", b"--"),
-        (b"a b", b"a%20b"),
-        (b"\xC3\xA9", b"%C3%A9"),
-        (b"%", b"%25"),
-        (b"~", b"~"),
-        (b"\x7F", b"%7F"),
-    ];
-    for (text, word) in cases {
-        let mut out = Vec::new(rt.alloc());
-        write_word(&mut out, text)?;
-        assert_eq!(rt; out.as_slice(), word);
-    }
-    Ok(())
-}
-
-#[test]
 fn lines_of_numbers(rt: HostRuntime) -> Result<(), Fail> {
     let mut out = Vec::new(rt.alloc());
     write_events_line(&mut out, 8, 0)?;

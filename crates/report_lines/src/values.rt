@@ -1,12 +1,11 @@
 ghost use Rattle.std.specs.Prelude.{◌≡◌, [], ◌++◌, OnOk, OnErr};
 ghost use Rattle.sync_model.specs.Settings.{names};
 ghost use Rattle.sync_model.specs.Report.{preference_text, password_text, pass_number, key_text, key_numbers, nigori_text, value_text, lock_text};
-ghost use Rattle.report_lines.specs.Continued.{Continues};
+ghost use Rattle.text_lines.specs.Continued.{Continues};
 
-use crate::pieces::{Piece, write_pieces};
-use crate::words::write_text;
 use sync_model::Value;
 use sync_values::{NigoriKey, NigoriValue, Password, Preference};
+use text_lines::{Piece, write_pieces, write_text};
 use wire_fields::{NoMemory, Octets};
 
 fn write_preference(out: &mut Vec<u8>, preference: &Preference) -> Result<(), NoMemory>
@@ -57,7 +56,7 @@ fn write_key(out: &mut Vec<u8>, key: &NigoriKey) -> Result<(), NoMemory>
     write_pieces(out, &[Piece::Text(b" "), Piece::Number(0)])
 }
 
-#[tactic(auto, using(crate::proofs::Continuing::continues_after))]
+#[tactic(auto, using(text_lines::proofs::Continuing::continues_after))]
 fn write_keys(out: &mut Vec<u8>, keys: &[NigoriKey]) -> Result<(), NoMemory>
     ensures ok { OnOk result (out.new.items ≡ out.old.items ++ key_numbers names (pass_number names []) keys.now) }
     ensures err { OnErr result (Continues out.old.items out.new.items) }
@@ -68,7 +67,7 @@ fn write_keys(out: &mut Vec<u8>, keys: &[NigoriKey]) -> Result<(), NoMemory>
     Ok(())
 }
 
-#[tactic(auto, using(crate::proofs::Continuing::continues_after), unfolding(sync_model::specs::Report::nigori_text))]
+#[tactic(auto, using(text_lines::proofs::Continuing::continues_after), unfolding(sync_model::specs::Report::nigori_text))]
 fn write_nigori(out: &mut Vec<u8>, nigori: &NigoriValue) -> Result<(), NoMemory>
     ensures ok { OnOk result (out.new.items ≡ out.old.items ++ nigori_text names (pass_number names []) nigori.now) }
     ensures err { OnErr result (Continues out.old.items out.new.items) }

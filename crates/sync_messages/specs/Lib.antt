@@ -5,3 +5,4 @@ pub mod Requests
 pub mod Replies
 pub mod Spellings
 pub mod Lengths
+pub mod Laws

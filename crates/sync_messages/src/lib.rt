@@ -5,6 +5,7 @@ mod answer;
 mod entity;
 mod entity_len;
 mod field_len;
+mod laws;
 mod marker;
 mod message;
 mod message_len;
@@ -17,6 +18,7 @@ mod write_reply;
 mod write_request;
 
 pub use entity::decode_entity;
+pub use laws::bytes_say_one_message;
 pub use message::{
     Commit, Entity, EntryAnswer, FromServer, GetUpdates, Marker, Outcome, Reply, Request, ToServer,
     Updates,

@@ -1,3 +1,4 @@
-pub mod OneWord
 pub mod Stepping
 pub mod Causes
+pub mod Works
+pub mod Replaying

@@ -1,7 +1,7 @@
 -- What a run did to its source and to its sink.
-use Rattle.std.specs.Prelude.{ℕ, ◌<◌, ◌⊎◌, List, length, take, Option}
+use Rattle.std.specs.Prelude.{◌≡◌, ℕ, ◌+◌, ◌<◌, ◌≤◌, ◌⊎◌, List, length, take, Option, Some, IfSome}
 use Rattle.outer_edge.specs.Faults.{Rose}
-use Rattle.outer_edge.specs.Source.{Grew, Gave, IsAllOf, IsAtEnd}
+use Rattle.outer_edge.specs.Source.{Grew, Gave, GaveCount, IsAllOf, IsAtEnd}
 
 -- a source before a run and now, with what it tells: the bytes that are left and that came, and its faults
 pub record Reading (S : Type 0) : Type 0 where
@@ -39,6 +39,31 @@ pub record GaveText {S : Type 0} (r : Reading S) (text : List ℕ) : Type 0 wher
   pub gave : Gave r.left r.came r.before r.now text
   pub is_all : IsAllOf (r.left r.before) text
   pub ended : IsAtEnd (r.left r.now)
+
+-- the source gave an input of at most so many bytes, and this holds of it
+pub record GaveInput {S : Type 0} (r : Reading S) (limit : ℕ) (Holds : List ℕ → Type 0) : Type 0 where
+  pub input : List ℕ
+  pub gave : GaveText r input
+  pub within : length input ≤ limit
+  pub holds : Holds input
+
+-- the source gave one byte more than so many, and had at least as many, where it tells
+pub record GaveTooMuch {S : Type 0} (r : Reading S) (limit : ℕ) : Type 0 where
+  pub gave : GaveCount r.left r.came r.before r.now (limit + 1)
+  pub was_longer : IfSome (r.left r.before) (λ all. limit < length all)
+
+-- the source tells that it has an input left of at most so many bytes, and this holds of it
+pub record TellsInput (left : Option (List ℕ)) (limit : ℕ) (Holds : List ℕ → Type 0) : Type 0 where
+  pub input : List ℕ
+  pub told : left ≡ Some input
+  pub within : length input ≤ limit
+  pub holds : Holds input
+
+-- the source tells that it has more left than so many bytes
+pub record TellsTooMuch (left : Option (List ℕ)) (limit : ℕ) : Type 0 where
+  pub input : List ℕ
+  pub told : left ≡ Some input
+  pub is_longer : limit < length input
 
 -- the sink took a text, and nothing else
 abbrev pub Wrote : {O : Type 0} → Writing O → List ℕ → Type 0

@@ -1,7 +1,7 @@
 -- The numbers that the program ends with.
 use Rattle.std.specs.Prelude.{ℕ}
 use Rattle.sync_program.specs.declared.status.Status.{Status}
-use Rattle.sync_program.specs.declared.status.Status.TheVariants.{Ok, Usage, BadSchedule, ReadFault, WriteFault, NoMemory, TooBig}
+use Rattle.sync_program.specs.declared.status.Status.TheVariants.{Ok, Usage, BadSchedule, ReadFault, WriteFault, NoMemory, TooBig, BadMessage}
 
 -- the exit status of the process
 abbrev pub code_of : Status → ℕ
@@ -12,3 +12,4 @@ code_of ReadFault = 3
 code_of WriteFault = 4
 code_of NoMemory = 5
 code_of TooBig = 8
+code_of BadMessage = 12

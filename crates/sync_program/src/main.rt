@@ -1,14 +1,18 @@
-//! The program: it replays a recorded schedule, and prints the report of the world that it makes.
+//! The program: it replays a recorded schedule and prints the report of the world that it makes, and looks into
+//! recorded messages.
 #![tactic(auto)]
 
 ghost use Rattle.std.specs.Prelude.{◌≡◌, ◌⊎◌, IfErr};
 ghost use Rattle.std.specs.IoError.{error_kind};
 
+mod command;
+mod output;
 mod refusal;
 mod replay;
 mod run;
 mod status;
 mod texts;
+mod wire;
 
 use outer_edge::{StandardInput, StandardOutput, Words};
 use refusal::{Refusal, refuse};

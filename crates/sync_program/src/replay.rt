@@ -7,14 +7,19 @@ ghost use Rattle.sync_model.specs.declared.event.Schedule.{Schedule as Plan};
 ghost use Rattle.sync_model.specs.Settings.{names};
 ghost use Rattle.sync_model.specs.Worlds.{world_of};
 ghost use Rattle.schedule_text.specs.declared.fault.LineReason.{LineReason as Reason};
-ghost use Rattle.schedule_text.specs.Spelling.{IsSchedule};
-ghost use Rattle.sync_program.specs.Outside.{reading, writing, SourceFailed, SinkFailed};
+ghost use Rattle.schedule_text.specs.Spelling.{IsSchedule, Spells};
+ghost use Rattle.schedule_text.specs.Refusals.{IsRefused};
+ghost use Rattle.sync_program.specs.declared.status.Status.TheVariants.{BadSchedule};
+ghost use Rattle.sync_program.specs.Texts.{bad_schedule_line};
+ghost use Rattle.sync_program.specs.Outside.{reading, writing, SourceFailed, SinkFailed, GaveInput, TellsInput, TellsTooMuch};
 ghost use Rattle.sync_program.specs.Refusals.{IsRefusalOf};
-ghost use Rattle.sync_program.specs.Replay.{MAX_TEXT, report_of, GaveSchedule, IsWritten, HasCause, TellsSchedule, TellsRefused, TellsTooMuch, Replays, Refuses, RefusesLength, IsOkOrNoMemory};
+ghost use Rattle.sync_program.specs.Work.{HasCause, GivesOutput, GivesRefusal, RefusesLength, IsOkOrNoMemory};
+ghost use Rattle.sync_program.specs.Replay.{MAX_TEXT, TellsSchedule, report_of, replaying};
 
+use crate::output::write_output;
 use crate::refusal::{Refusal, refuse};
 use crate::status::Status;
-use outer_edge::{Sink, Source, read_up_to, write_whole};
+use outer_edge::{Sink, Source, read_up_to};
 use replay_world::World;
 use schedule_text::{
     Schedule, parse_schedule, refuses_no_schedule, refuses_one_line, spells_one_schedule,
@@ -31,18 +36,19 @@ const TEXT_LIMIT: u64 = 1_048_576;
 /// world's steps and its report. It asks the source for at most one byte more than a schedule may have.
 pub fn run_replay<S: Source, O: Sink>(alloc: Global, input: &mut S, output: &mut O) -> Status
     // A schedule gives just its report.
-    ensures replays { (schedule : Plan) → TellsSchedule (S.left input.old) schedule → Replays result
+    ensures replays { (schedule : Plan) → TellsSchedule (S.left input.old) schedule → GivesOutput (report_of schedule) result
         (reading S.left S.came S.faults input.old input.new)
-        (writing O.taken O.faults output.old output.new) schedule }
+        (writing O.taken O.faults output.old output.new) }
     // Each status has its cause.
-    ensures cause { HasCause result
+    ensures cause { HasCause replaying result
         (reading S.left S.came S.faults input.old input.new)
         (writing O.taken O.faults output.old output.new) }
     // A text that is refused, or too long, gives the status that says so.
-    ensures refuses { (line : ℕ) (reason : Reason) → TellsRefused (S.left input.old) line reason → Refuses result
+    ensures refuses { (line : ℕ) (reason : Reason) → TellsInput (S.left input.old) MAX_TEXT (λ text. IsRefused text line reason)
+        → GivesRefusal BadSchedule (bad_schedule_line line reason) result
         (reading S.left S.came S.faults input.old input.new)
-        (writing O.taken O.faults output.old output.new) line reason }
-    ensures refuses_length { TellsTooMuch (S.left input.old) → RefusesLength result
+        (writing O.taken O.faults output.old output.new) }
+    ensures refuses_length { TellsTooMuch (S.left input.old) MAX_TEXT → RefusesLength result
         (reading S.left S.came S.faults input.old input.new) }
     // Where nothing outside failed, a schedule gives status 0, or memory was wanting.
     ensures completes { (schedule : Plan) → TellsSchedule (S.left input.old) schedule
@@ -63,7 +69,7 @@ pub fn run_replay<S: Source, O: Sink>(alloc: Global, input: &mut S, output: &mut
 
 // Replays what the source gives.
 fn replay<S: Source, O: Sink>(alloc: Global, input: &mut S, output: &mut O) -> Status
-    ensures cause { HasCause result
+    ensures cause { HasCause replaying result
         (reading S.left S.came S.faults input.old input.new)
         (writing O.taken O.faults output.old output.new) }
     ensures gave_some { GaveUpTo S.left S.came input.old input.new (MAX_TEXT + 1) }
@@ -75,7 +81,7 @@ fn replay<S: Source, O: Sink>(alloc: Global, input: &mut S, output: &mut O) -> S
         Err(refusal) => return refuse(alloc, output, refusal),
     };
     match report(alloc, &schedule) {
-        Ok(text) => write_report(output, text.as_slice()),
+        Ok(text) => write_output(output, text.as_slice()),
         Err(NoMemory) => refuse(alloc, output, Refusal::NoMemory),
     }
 }
@@ -83,8 +89,8 @@ fn replay<S: Source, O: Sink>(alloc: Global, input: &mut S, output: &mut O) -> S
 // The schedule that the source gives, of at most as many bytes as one may have.
 fn read_schedule<S: Source>(alloc: Global, input: &mut S) -> Result<Schedule, Refusal>
     ensures read { MatchResult result
-        (λ schedule. GaveSchedule (reading S.left S.came S.faults input.old input.new) schedule)
-        (λ refusal. IsRefusalOf refusal (reading S.left S.came S.faults input.old input.new)) }
+        (λ schedule. GaveInput (reading S.left S.came S.faults input.old input.new) MAX_TEXT (λ text. Spells text schedule))
+        (λ refusal. IsRefusalOf replaying refusal (reading S.left S.came S.faults input.old input.new)) }
     ensures gave_some { GaveUpTo S.left S.came input.old input.new (MAX_TEXT + 1) }
     ensures never_falls { NeverFalls (S.faults input.old) (S.faults input.new) }
 {
@@ -112,15 +118,4 @@ fn world(alloc: Global, schedule: &Schedule) -> Result<World, NoMemory>
         world.step(event)?;
     }
     Ok(world)
-}
-
-// Writes a report, and says whether the sink took all of it.
-fn write_report<O: Sink>(output: &mut O, report: &[u8]) -> Status
-    ensures written { IsWritten result (writing O.taken O.faults output.old output.new) report.now }
-    ensures never_falls { NeverFalls (O.faults output.old) (O.faults output.new) }
-{
-    match write_whole(output, report) {
-        Ok(()) => Status::Ok,
-        Err(_) => Status::WriteFault,
-    }
 }

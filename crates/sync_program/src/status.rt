@@ -4,7 +4,7 @@ ghost use Rattle.sync_program.specs.Status.{code_of};
 /// How a run of the program ended.
 #[derive(Clone, Copy, Debug, PartialEq, Eq)]
 pub enum Status {
-    /// The whole report was written.
+    /// The whole output was written.
     Ok,
     /// The words of the command line are none that the program knows.
     Usage,
@@ -12,12 +12,14 @@ pub enum Status {
     BadSchedule,
     /// The source failed.
     ReadFault,
-    /// The sink failed within the report.
+    /// The sink failed within the output.
     WriteFault,
     /// Memory was wanting.
     NoMemory,
-    /// The input is longer than a schedule may be.
+    /// The input is longer than it may be.
     TooBig,
+    /// The input is no message.
+    BadMessage,
 }
 
 impl Status {
@@ -33,6 +35,7 @@ impl Status {
             Status::WriteFault => 4,
             Status::NoMemory => 5,
             Status::TooBig => 8,
+            Status::BadMessage => 12,
         }
     }
 }

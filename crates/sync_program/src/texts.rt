@@ -1,9 +1,10 @@
-//! The lines that the program prints where it refuses. Only that of a bad schedule takes memory.
+//! The lines that the program prints where it refuses. Only those of a bad schedule and of a bad message take memory.
 
 ghost use Rattle.std.specs.Prelude.{◌≡◌, IfOk};
-ghost use Rattle.sync_program.specs.Texts.{unknown_words_line, read_fault_line, no_memory_line, too_big_line, reason_end, bad_schedule_line};
+ghost use Rattle.sync_program.specs.Texts.{unknown_words_line, read_fault_line, no_memory_line, too_big_line, reason_end, bad_schedule_line, bad_message_line};
 
 use itoa::Buffer;
+use message_text::{MessageFault, write_fault};
 use schedule_text::LineReason;
 use std::alloc::Global;
 use wire_fields::NoMemory;
@@ -56,5 +57,16 @@ pub fn bad_schedule(alloc: Global, line: u64, reason: LineReason) -> Result<Vec<
     let mut text = Vec::from_slice(alloc, b"bad schedule: line ")?;
     text.extend_from_slice(buffer.format(line).as_bytes())?;
     text.extend_from_slice(reason_text(reason))?;
+    Ok(text)
+}
+
+/// Says where the bytes are no message, and why.
+#[tactic(auto, unfolding(crate::specs::Texts::bad_message_line))]
+pub fn bad_message(alloc: Global, fault: MessageFault) -> Result<Vec<u8>, NoMemory>
+    ensures { IfOk result (λ text. text.items ≡ bad_message_line fault) }
+{
+    let mut text = Vec::from_slice(alloc, b"bad message: ")?;
+    write_fault(&mut text, fault)?;
+    text.push(b'\n')?;
     Ok(text)
 }

@@ -18,11 +18,12 @@ use Rattle.sync_specifics.specs.Keys.{key_fields, key_fault, key_of, bag_fields,
 use Rattle.sync_specifics.specs.Specifics.{specifics_fields, password_fields, nigori_fields, AreSpecificsFields, specifics_fault, specifics_of, SaysSpecifics}
 use Rattle.sync_specifics.specs.Laws.{SayOneThing}
 
-whole_within : (input : List ℕ) → ArePartsOf input (whole_of input ∷ [])
+-- all bytes are a part of themselves
+pub whole_within : (input : List ℕ) → ArePartsOf input (whole_of input ∷ [])
 whole_within input = ((omega arith, omega arith), tt)
 
 -- the message that all bytes are
-whole_same : (known : List Known) (input : List ℕ) (a b : Message) → IsReading known input (whole_of input ∷ []) a →
+pub whole_same : (known : List Known) (input : List ℕ) (a b : Message) → IsReading known input (whole_of input ∷ []) a →
     IsReading known input (whole_of input ∷ []) b → a ≡ b
 whole_same known input a b one two = one_message known input (whole_of input ∷ []) a b (whole_within input) one two
 
@@ -42,7 +43,7 @@ one_key input said other one two =
     (whole_same key_fields input one.message two.message one.is_reading two.is_reading) ∙ sym two.is_said
 
 -- one message for each part
-readings_same : (known : List Known) (input : List ℕ) (parts : List Part) (a b : List Message) → ArePartsOf input parts →
+pub readings_same : (known : List Known) (input : List ℕ) (parts : List Part) (a b : List Message) → ArePartsOf input parts →
     AreReadings known input parts a → AreReadings known input parts b → a ≡ b
 readings_same known input [] [] [] are one two = refl
 readings_same known input [] [] (y ∷ b) are one two = absurd two
@@ -54,7 +55,7 @@ readings_same known input (part ∷ parts) (x ∷ a) (y ∷ b) are one two =
     ∙ ap (λ rest. y ∷ rest) (readings_same known input parts a b are.1 one.1 two.1)
 
 -- the contents of a message stand within the input
-message_within : (known : List Known) (input : List ℕ) (parts : List Part) (message : Message) (number : ℕ) →
+pub message_within : (known : List Known) (input : List ℕ) (parts : List Part) (message : Message) (number : ℕ) →
     IsReading known input parts message → ArePartsOf input (parts_of number message.fields)
 message_within known input parts message number reading =
     parts_within input number message.fields (reading_within known input parts message reading)
@@ -69,26 +70,26 @@ one_bag input said other one two =
     ∙ ap (λ keys. said_unless (bag_fault two.bag keys) (map (key_of input) keys)) keys ∙ sym two.is_said
 
 -- an inner message
-inner_same : (outer known : List Known) (input : List ℕ) (parts : List Part) (number : ℕ) (o p a b : Message) → o ≡ p →
+pub inner_same : (outer known : List Known) (input : List ℕ) (parts : List Part) (number : ℕ) (o p a b : Message) → o ≡ p →
     IsReading outer input parts o → IsReading known input (parts_of number o.fields) a →
     IsReading known input (parts_of number p.fields) b → a ≡ b
 inner_same outer known input parts number o p a b same reading one two =
     one_message known input (parts_of number o.fields) a b (message_within outer input parts o number reading) one
     (subst (λ (message : Message). IsReading known input (parts_of number message.fields) b) (sym same) two)
 
--- the messages in specifics
-all_same : (input : List ℕ) (a b : SpecificsFields) → AreSpecificsFields input (whole_of input ∷ []) a →
-    AreSpecificsFields input (whole_of input ∷ []) b → a ≡ b
-all_same input a b one two =
-    let own = whole_same specifics_fields input a.own b.own one.own two.own in
-    let sealed = inner_same specifics_fields sealed_fields input (whole_of input ∷ []) 1 a.own b.own a.sealed b.sealed own one.own one.sealed two.sealed in
-    let preference = inner_same specifics_fields preference_fields input (whole_of input ∷ []) 37702 a.own b.own a.preference b.preference own one.own
+-- the messages in the pieces of specifics
+pub all_same : (input : List ℕ) (parts : List Part) (a b : SpecificsFields) → ArePartsOf input parts → AreSpecificsFields input parts a →
+    AreSpecificsFields input parts b → a ≡ b
+all_same input parts a b are one two =
+    let own = one_message specifics_fields input parts a.own b.own are one.own two.own in
+    let sealed = inner_same specifics_fields sealed_fields input parts 1 a.own b.own a.sealed b.sealed own one.own one.sealed two.sealed in
+    let preference = inner_same specifics_fields preference_fields input parts 37702 a.own b.own a.preference b.preference own one.own
     one.preference two.preference in
-    let password = inner_same specifics_fields password_fields input (whole_of input ∷ []) 45873 a.own b.own a.password b.password own one.own
+    let password = inner_same specifics_fields password_fields input parts 45873 a.own b.own a.password b.password own one.own
     one.password two.password in
     let sealed_password = inner_same password_fields sealed_fields input (parts_of 45873 a.own.fields) 1 a.password b.password
     a.sealed_password b.sealed_password password one.password one.sealed_password two.sealed_password in
-    let nigori = inner_same specifics_fields nigori_fields input (whole_of input ∷ []) 47745 a.own b.own a.nigori b.nigori own one.own
+    let nigori = inner_same specifics_fields nigori_fields input parts 47745 a.own b.own a.nigori b.nigori own one.own
     one.nigori two.nigori in
     let sealed_keys = inner_same nigori_fields sealed_fields input (parts_of 47745 a.own.fields) 1 a.nigori b.nigori
     a.sealed_keys b.sealed_keys nigori one.nigori one.sealed_keys two.sealed_keys in
@@ -103,4 +104,4 @@ all_same input a b one two =
 pub one_specifics : SayOneThing SaysSpecifics
 one_specifics input said other one two =
     one.is_said ∙ ap (λ all. said_unless (specifics_fault all) (specifics_of input all))
-    (all_same input one.all two.all one.are_fields two.are_fields) ∙ sym two.is_said
+    (all_same input (whole_of input ∷ []) one.all two.all (whole_within input) one.are_fields two.are_fields) ∙ sym two.is_said

@@ -1,0 +1,5 @@
+pub mod Messages
+pub mod Lines
+pub mod Texts
+pub mod Faults
+pub mod Laws
