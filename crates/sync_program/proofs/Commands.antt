@@ -79,10 +79,10 @@ pub replay_runs : {S O : Type 0} (status : Status) (r : Reading S) (w : Writing 
     → ((schedule : Schedule) → TellsSchedule (r.left r.before) schedule → GivesOutput (report_of schedule) status r w)
     → HasCause replaying status r w
     → ((line : ℕ) (reason : LineReason) → TellsInput (r.left r.before) MAX_TEXT (λ text. IsRefused text line reason)
-      → GivesRefusal BadSchedule (bad_schedule_line line reason) status r w)
+    → GivesRefusal BadSchedule (bad_schedule_line line reason) status r w)
     → (TellsTooMuch (r.left r.before) MAX_TEXT → RefusesLength status r)
     → ((schedule : Schedule) → TellsSchedule (r.left r.before) schedule → (SourceFailed r → ⊥) → (SinkFailed w → ⊥)
-      → IsOkOrNoMemory status)
+    → IsOkOrNoMemory status)
     → Runs replaying status r w
 replay_runs status r w replays cause refuses refuses_length completes = record {
   gives = λ text tells.
@@ -100,13 +100,13 @@ replay_runs status r w replays cause refuses refuses_length completes = record {
 -- what is said of messages is said of the work of looking into them
 pub wire_runs : (command : WireCommand) {S O : Type 0} (status : Status) (r : Reading S) (w : Writing O)
     → ((text : List ℕ) → TellsInput (r.left r.before) MAX_MESSAGE (λ bytes. IsLookedInto command bytes text)
-      → GivesOutput text status r w)
+    → GivesOutput text status r w)
     → HasCause (looking command) status r w
     → ((line : List ℕ) → TellsInput (r.left r.before) MAX_MESSAGE (λ bytes. IsNoMessage command bytes line)
-      → GivesRefusal BadMessage line status r w)
+    → GivesRefusal BadMessage line status r w)
     → (TellsTooMuch (r.left r.before) MAX_MESSAGE → RefusesLength status r)
     → ((text : List ℕ) → TellsInput (r.left r.before) MAX_MESSAGE (λ bytes. IsLookedInto command bytes text)
-      → (SourceFailed r → ⊥) → (SinkFailed w → ⊥) → IsOkOrNoMemory status)
+    → (SourceFailed r → ⊥) → (SinkFailed w → ⊥) → IsOkOrNoMemory status)
     → Runs (looking command) status r w
 wire_runs command status r w gives cause refuses refuses_length completes = record {
   gives = gives;
