@@ -1,4 +1,6 @@
+pub mod WordLists
 pub mod Stepping
 pub mod Causes
 pub mod Works
 pub mod Replaying
+pub mod Commands

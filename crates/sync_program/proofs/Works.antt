@@ -26,12 +26,12 @@ replaying-IsDetermined spells refuses neither = record {
 }
 
 -- the message that is said
-message_in : WireMessage → Result WireMessage MessageFault → WireMessage
+abbrev message_in : WireMessage → Result WireMessage MessageFault → WireMessage
 message_in other (Ok message) = message
 message_in other (Err fault) = other
 
 -- the fault that is said
-fault_in : MessageFault → Result WireMessage MessageFault → MessageFault
+abbrev fault_in : MessageFault → Result WireMessage MessageFault → MessageFault
 fault_in other (Ok message) = other
 fault_in other (Err fault) = fault
 
@@ -42,8 +42,8 @@ message_is_no_fault message fault same = cc
 -- two flags that mean the same are equal
 same_flag : (one two : Bool) (P : Type 0) → IsTrue one ↔ P → IsTrue two ↔ P → one ≡ two
 same_flag true true P is_one is_two = refl
-same_flag true false P is_one is_two = absurd (is_two.1 (is_one.0 tt))
-same_flag false true P is_one is_two = absurd (is_one.1 (is_two.0 tt))
+same_flag true false P is_one is_two = sym (is_two.1 (is_one.0 refl))
+same_flag false true P is_one is_two = is_one.1 (is_two.0 refl)
 same_flag false false P is_one is_two = refl
 
 -- bytes are one message at most, or have one fault

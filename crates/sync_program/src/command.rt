@@ -1,5 +1,5 @@
 //! The commands, and the words that name them.
-ghost use Rattle.std.specs.Prelude.{◌≡◌, ◌≢◌, ◌↔◌, IsTrue, MatchOption, IfSome, Some, None};
+ghost use Rattle.std.specs.Prelude.{◌≡◌, ◌≢◌, ◌↔◌, List, [], ◌∷◌, IsTrue, MatchOption};
 ghost use Rattle.sync_program.specs.Command.{AreUnknown, direction_word, look_word, replay_word, wire_word, words_of};
 
 use message_text::Direction;
@@ -31,7 +31,7 @@ pub enum Command {
 
 /// The command that these words are, if they are one.
 pub fn command_of(words: &Words) -> Option<Command>
-    ensures { MatchOption result (λ command. words.now ≡ words_of command) (AreUnknown words.now) }
+    ensures { MatchOption result (AreUnknown words.now) (λ command. words.now ≡ words_of command) }
 {
     match words.len() {
         1 => replay_command(words.get(0)?),
@@ -42,7 +42,7 @@ pub fn command_of(words: &Words) -> Option<Command>
 
 // The command of this one word.
 fn replay_command(word: &str) -> Option<Command>
-    ensures { MatchOption result (λ command. word.now ∷ [] ≡ words_of command) (AreUnknown (word.now ∷ [])) }
+    ensures { MatchOption result (AreUnknown (word.now ∷ [])) (λ command. word.now ∷ [] ≡ words_of command) }
 {
     if is_replay(word) {
         Some(Command::Replay)
@@ -53,8 +53,8 @@ fn replay_command(word: &str) -> Option<Command>
 
 // The command of these three words.
 fn wire_command(first: &str, second: &str, third: &str) -> Option<Command>
-    ensures { MatchOption result (λ command. first.now ∷ second.now ∷ third.now ∷ [] ≡ words_of command)
-        (AreUnknown (first.now ∷ second.now ∷ third.now ∷ [])) }
+    ensures { MatchOption result (AreUnknown (first.now ∷ second.now ∷ third.now ∷ []))
+        (λ command. first.now ∷ second.now ∷ third.now ∷ [] ≡ words_of command) }
 {
     if !is_wire(first) {
         return None;
@@ -65,7 +65,7 @@ fn wire_command(first: &str, second: &str, third: &str) -> Option<Command>
 }
 
 fn look_of(word: &str) -> Option<Look>
-    ensures { MatchOption result (λ look. word.now ≡ look_word look) ((look : Look) → word.now ≢ look_word look) }
+    ensures { MatchOption result ((look : Look) → word.now ≢ look_word look) (λ look. word.now ≡ look_word look) }
 {
     if is_check(word) {
         Some(Look::Check)
@@ -77,8 +77,8 @@ fn look_of(word: &str) -> Option<Look>
 }
 
 fn direction_of(word: &str) -> Option<Direction>
-    ensures { MatchOption result (λ direction. word.now ≡ direction_word direction)
-        ((direction : Direction) → word.now ≢ direction_word direction) }
+    ensures { MatchOption result ((direction : Direction) → word.now ≢ direction_word direction)
+        (λ direction. word.now ≡ direction_word direction) }
 {
     if is_to(word) {
         Some(Direction::ToServer)
