@@ -19,3 +19,6 @@ pub mod WantedWrites
 pub mod WholeBatches
 pub mod KnownWorlds
 pub mod Agreement
+pub mod FateKeys
+pub mod FateUpdates
+pub mod FateAcks

@@ -17,3 +17,4 @@ pub mod Fates
 pub mod Report
 pub mod Laws
 pub mod Facts
+pub mod FateFacts
