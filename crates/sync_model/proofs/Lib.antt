@@ -22,3 +22,4 @@ pub mod Agreement
 pub mod FateKeys
 pub mod FateUpdates
 pub mod FateAcks
+pub mod FateWays

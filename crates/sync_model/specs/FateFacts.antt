@@ -82,18 +82,18 @@ pub record IsSaidOfClient (Says : Saying) (number : ℕ) (outcomes : List EventO
   pub sides : (kind : Kind) → IsSaidOfSide Says number outcomes kind (side_of client kind)
   pub awaits : IfSome client.outstanding (λ event. (request : Request Content) × (outcome_at outcomes event ≡ Requested number request))
 
--- this is said of each request of a client, and the updates of a reply are of different keys
-abbrev pub IsSaidOfOutcome : Saying → ℕ → EventOutcome → Type 0
-IsSaidOfOutcome Says number (Requested client request) = client ≡ number → IsSaidOfCall Says request.call
-IsSaidOfOutcome Says number (Delivered event reply) = IsOfDistinctKeys reply.verdict
-IsSaidOfOutcome Says number Void = ⊤
-IsSaidOfOutcome Says number Done = ⊤
-IsSaidOfOutcome Says number (Edited client kind edit) = ⊤
+-- this is said of each request, for the client that made it, and the updates of a reply are of different keys
+abbrev pub IsSaidOfOutcome : (ℕ → Saying) → EventOutcome → Type 0
+IsSaidOfOutcome Says (Requested client request) = IsSaidOfCall (Says client) request.call
+IsSaidOfOutcome Says (Delivered event reply) = IsOfDistinctKeys reply.verdict
+IsSaidOfOutcome Says Void = ⊤
+IsSaidOfOutcome Says Done = ⊤
+IsSaidOfOutcome Says (Edited client kind edit) = ⊤
 
--- this is said of all that is on its way between a client and the server
-pub record IsSaidOnTheWay (Says : Saying) (number : ℕ) (world : World) : Type 0 where
-  pub client : IsSaidOfClient Says number world.outcomes (client_at world.clients number)
-  pub outcomes : (event : ℕ) → IsSaidOfOutcome Says number (outcome_at world.outcomes event)
+-- this is said of all that is on its way between the clients and the server; no client has the number 0
+pub record IsSaidOnTheWay (Says : ℕ → Saying) (world : World) : Type 0 where
+  pub clients : (place : ℕ) → IsSaidOfClient (Says (suc place)) (suc place) world.outcomes (client_at world.clients (suc place))
+  pub outcomes : (event : ℕ) → IsSaidOfOutcome Says (outcome_at world.outcomes event)
 
 -- what is due of a key is its last edit, which is not above the side's
 pub record IsNumbered (last : ℕ) (state : KeyState) : Type 0 where
@@ -104,15 +104,16 @@ pub record IsNumbered (last : ℕ) (state : KeyState) : Type 0 where
 abbrev pub AreNumbered : ℕ → States → Type 0
 AreNumbered last states = AllByRecursion (λ entry. IsNumbered last entry.1) states
 
--- the number of the last edit of a type on a client
-abbrev pub last_edit_of : World → ℕ → Kind → ℕ
-last_edit_of world number kind = (side_of (client_at world.clients number) kind).last_edit
+-- what a client has of a type
+abbrev pub side_at : World → ℕ → Kind → Side
+side_at world number kind = side_of (client_at world.clients number) kind
 
--- a client's numbers of edits: no key, settlement, request or acknowledgement has one above the side's last
-pub record NumberFacts (number : ℕ) (world : World) : Type 0 where
-  pub keys : (kind : Kind) → AreNumbered (last_edit_of world number kind) (side_of (client_at world.clients number) kind).states
-  pub unsettled : (kind : Kind) (edit : ℕ) → last_edit_of world number kind < edit → fate_of world.settlements number kind edit ≡ None
-  pub sent : IsSaidOnTheWay (λ kind edit value. edit ≤ last_edit_of world number kind) number world
+-- the numbers of edits: no key, settlement, request or acknowledgement has one above its side's last
+pub record NumberFacts (world : World) : Type 0 where
+  pub keys : (place : ℕ) (kind : Kind) → AreNumbered (side_at world (suc place) kind).last_edit (side_at world (suc place) kind).states
+  pub unsettled : (place : ℕ) (kind : Kind) (edit : ℕ) → (side_at world (suc place) kind).last_edit < edit
+      → fate_of world.settlements (suc place) kind edit ≡ None
+  pub sent : IsSaidOnTheWay (λ number kind edit value. edit ≤ (side_at world number kind).last_edit) world
 
 -- the key of this hash, and no other, has the edit of this number as its last, which is due with this value
 abbrev pub IsOnlyOf : ℕ → List ℕ → Value → List ℕ → KeyState → Type 0
@@ -126,12 +127,12 @@ pub record StandsOn (edit : ℕ) (hash : List ℕ) (value : Value) (states : Sta
   pub alone : AllByRecursion (λ entry. IsOnlyOf edit hash value entry.0 entry.1) states
 
 -- what is on its way with the number of an edit has its value
-abbrev pub HasValueOf : Kind → ℕ → Value → Saying
-HasValueOf kind edit value other number found = other ≡ kind → number ≡ edit → found ≡ value
+abbrev pub HasValueOf : ℕ → Kind → ℕ → Value → ℕ → Saying
+HasValueOf client kind edit value number other found own = number ≡ client → other ≡ kind → found ≡ edit → own ≡ value
 
 -- an edit of a client is not settled: it stands, and what is on its way with its number has its value
-pub record IsUnsettled (number : ℕ) (kind : Kind) (edit : ℕ) (hash : List ℕ) (value : Value) (world : World) : Type 0 where
-  pub counted : edit ≤ last_edit_of world number kind
-  pub open_yet : fate_of world.settlements number kind edit ≡ None
-  pub stands : StandsOn edit hash value (side_of (client_at world.clients number) kind).states
-  pub sent : IsSaidOnTheWay (HasValueOf kind edit value) number world
+pub record IsUnsettled (client : ℕ) (kind : Kind) (edit : ℕ) (hash : List ℕ) (value : Value) (world : World) : Type 0 where
+  pub counted : edit ≤ (side_at world client kind).last_edit
+  pub lacks_fate : fate_of world.settlements client kind edit ≡ None
+  pub stands : StandsOn edit hash value (side_at world client kind).states
+  pub sent : IsSaidOnTheWay (HasValueOf client kind edit value) world
