@@ -23,3 +23,5 @@ pub mod FateKeys
 pub mod FateUpdates
 pub mod FateAcks
 pub mod FateWays
+pub mod FateOffers
+pub mod FateEvents
