@@ -25,3 +25,4 @@ pub mod FateAcks
 pub mod FateWays
 pub mod FateOffers
 pub mod FateEvents
+pub mod FateReplies
