@@ -26,3 +26,4 @@ pub mod FateWays
 pub mod FateOffers
 pub mod FateEvents
 pub mod FateReplies
+pub mod FateWorlds
