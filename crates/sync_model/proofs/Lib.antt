@@ -27,3 +27,5 @@ pub mod FateOffers
 pub mod FateEvents
 pub mod FateReplies
 pub mod FateWorlds
+pub mod FateSteps
+pub mod FateMakes
