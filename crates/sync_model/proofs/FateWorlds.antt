@@ -109,6 +109,15 @@ awaited_own outcomes None event number author request awaits awaited is = absurd
 awaited_own outcomes (Some other) event number author request awaits awaited is =
     ap author_of (sym is ∙ ap (λ (at : ℕ). outcome_at outcomes at) (sym (eqb-true other event awaited)) ∙ awaits.1)
 
+-- no client has the number 0, so none waits for a request of it
+pub not_by_none : (Says : ℕ → Saying) (world : World) (event : ℕ) (request : Request Content) → IsSaidOnTheWay Says world
+    → is_awaited (client_at world.clients 0).outstanding event ≡ true → outcome_at world.outcomes event ≡ Requested 0 request → ⊥
+not_by_none Says world event request said awaited is =
+    none_zero (awaited_own world.outcomes (client_at world.clients 1).outstanding event 1 0 request (said.clients 0).awaits awaited is)
+  where
+    none_zero : zero ≡ suc zero → ⊥
+    none_zero same = omega (arith, same)
+
 -- a reply to a request
 replied_by : (Says : ℕ → Saying) (world : World) (event delivery number : ℕ) (reply : Reply Content) (request : Request Content) (awaited : Bool)
     → is_awaited (client_at world.clients number).outstanding event ≡ awaited
@@ -117,10 +126,7 @@ replied_by : (Says : ℕ → Saying) (world : World) (event delivery number : �
     → IsSaidOnTheWay Says (cond awaited (affected world number (answer_effect request reply (client_at world.clients number))) (record world { outcomes = Void ∷ world.outcomes }))
 replied_by Says world event delivery number reply request false awaited is handled call distinct said = voided-said Says world said
 replied_by Says world event delivery zero reply request true awaited is handled call distinct said =
-    absurd (none_zero (awaited_own world.outcomes (client_at world.clients 1).outstanding event 1 0 request (said.clients 0).awaits awaited is))
-  where
-    none_zero : zero ≡ suc zero → ⊥
-    none_zero same = omega (arith, same)
+    absurd (not_by_none Says world event request said awaited is)
 replied_by Says world event delivery (suc place) reply request true awaited is handled call distinct said =
     affected-said Says world place (answer_effect request reply (client_at world.clients (suc place)))
     (answer_effect-said Says (suc place) world.outcomes event delivery request reply (client_at world.clients (suc place)) is handled call distinct (said.clients place)) said

@@ -29,3 +29,4 @@ pub mod FateReplies
 pub mod FateWorlds
 pub mod FateSteps
 pub mod FateMakes
+pub mod FateSettlements
