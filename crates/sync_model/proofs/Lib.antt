@@ -30,3 +30,4 @@ pub mod FateWorlds
 pub mod FateSteps
 pub mod FateMakes
 pub mod FateSettlements
+pub mod FateNumbers
