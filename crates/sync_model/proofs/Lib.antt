@@ -31,3 +31,4 @@ pub mod FateSteps
 pub mod FateMakes
 pub mod FateSettlements
 pub mod FateNumbers
+pub mod FateValues
