@@ -92,7 +92,7 @@ then_kept setting event world number kind old new next noted outcome later kept 
   settles = turning.settles;
 })
 
-restarted_kept : (client : Client) → AreKept client (restarted client)
+pub restarted_kept : (client : Client) → AreKept client (restarted client)
 restarted_kept client Nigori = (refl, refl)
 restarted_kept client Preference = (refl, refl)
 restarted_kept client Password = (refl, refl)

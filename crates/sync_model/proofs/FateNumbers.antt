@@ -44,7 +44,7 @@ follows_other (Some number) own later edit is differs = cond-false _ _ _ (ne_eqb
 pub record IsCounted (old new : Side) (noted : ℕ → Option Fate) : Type 0 where
   pub keys : AreNumbered new.last_edit new.states
   pub grows : old.last_edit ≤ new.last_edit
-  pub settles : (edit : ℕ) → new.last_edit < edit → noted edit ≡ None
+  pub settles : (edit : ℕ) → old.last_edit < edit → noted edit ≡ None
 
 makes_counted : (setting : Setting) (event : Event) (world : World) (number : ℕ) (kind : Kind) (old new : Side) (noted : ℕ → Option Fate) (outcome : EventOutcome)
     → AreNumbered old.last_edit old.states → Makes setting event world number kind old new noted outcome → IsCounted old new noted
@@ -70,10 +70,10 @@ makes_counted setting event world number kind old new noted outcome keys (inr (i
     more : (state : KeyState) → IsNumbered old.last_edit state → IsNumbered (old.last_edit + 1) state
     more state is = record { due = is.due; within = omega (arith, is.within) }
 
-    lower : (edit : ℕ) → new.last_edit < edit → (state_at old.states (edit_hash setting editing.edit)).last_edit ≡ edit → ⊥
+    lower : (edit : ℕ) → old.last_edit < edit → (state_at old.states (edit_hash setting editing.edit)).last_edit ≡ edit → ⊥
     lower edit above same =
         let here : IsNumbered old.last_edit (state_at old.states (edit_hash setting editing.edit)) = numbered_at old.last_edit old.states (edit_hash setting editing.edit) keys
-        in omega (arith, same, above, editing.last, here.within)
+        in omega (arith, same, above, here.within)
 makes_counted setting event world number kind old new noted outcome keys (inr (inr turning)) =
     let after : AreNumbered old.last_edit (after_task (decided_by setting kind) (record old { mailbox = turning.tasks }) turning.task).states
     × AreNotedWithin old.last_edit (task_notes (decided_by setting kind) old.states turning.task)
@@ -83,7 +83,7 @@ makes_counted setting event world number kind old new noted outcome keys (inr (i
           (subst (λ (states : States). AreNumbered old.last_edit states) (sym turning.states) after.0);
       grows = omega (arith, turning.last);
       settles = λ edit above. turning.settles edit ∙ within_none old.last_edit edit (task_notes (decided_by setting kind) old.states turning.task)
-          (omega (arith, above, turning.last)) after.1;
+          above after.1;
     }
 
 -- an event keeps what holds of the numbers
@@ -104,19 +104,25 @@ both_none : (first rest : Option Fate) → first ≡ None → rest ≡ None → 
 both_none None rest is none = none
 both_none (Some fate) rest is none = is
 
+-- after an event nothing is on its way with a number that was not there before it
+pub stepped-sent : (setting : Setting) (event : Event) (world : World) → NumberFacts world
+    → IsSaidOnTheWay (λ number kind edit value. edit ≤ (side_at world number kind).last_edit) (stepped setting event world)
+stepped-sent setting event world facts =
+    stepped-said (λ number kind edit value. edit ≤ (side_at world number kind).last_edit) setting event world
+    (λ place kind. all_then (λ (entry : List ℕ × KeyState) (is : IsNumbered (side_at world (suc place) kind).last_edit entry.1). (is.due, is.within))
+    (side_at world (suc place) kind).states (facts.keys place kind)) facts.sent
+
 pub stepped-numbers : (setting : Setting) (event : Event) (world : World) → NumberFacts world → NumberFacts (stepped setting event world)
 stepped-numbers setting event world facts = record {
   keys = λ place kind. (stepped_counted setting event world facts place kind).1.keys;
   unsettled = λ place kind edit above.
       let counted = stepped_counted setting event world facts place kind
       in counted.0.fates edit ∙ both_none (fate_of world.settlements (suc place) kind edit) (counted.0.noted edit)
-      (facts.unsettled place kind edit (omega (arith, above, counted.1.grows))) (counted.1.settles edit above);
+      (facts.unsettled place kind edit (omega (arith, above, counted.1.grows))) (counted.1.settles edit (omega (arith, above, counted.1.grows)));
   sent = way_weaker (λ number kind edit value. edit ≤ (side_at world number kind).last_edit)
       (λ number kind edit value. edit ≤ (side_at (stepped setting event world) number kind).last_edit) (stepped setting event world)
       (λ number kind edit value le. omega (arith, le, all_grow setting event world facts number kind))
-      (stepped-said (λ number kind edit value. edit ≤ (side_at world number kind).last_edit) setting event world
-      (λ place kind. all_then (λ (entry : List ℕ × KeyState) (is : IsNumbered (side_at world (suc place) kind).last_edit entry.1). (is.due, is.within))
-      (side_at world (suc place) kind).states (facts.keys place kind)) facts.sent);
+      (stepped-sent setting event world facts);
 }
 
 -- the world before any event

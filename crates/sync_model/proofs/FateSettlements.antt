@@ -67,7 +67,7 @@ option_or-none None = refl
 option_or-none (Some fate) = refl
 
 -- the client of a place once one is put at a place
-put_same : (clients : List Client) (place : ℕ) (client : Client) → slice_index_or (with_client_at clients place client) place new_client ≡ client
+pub put_same : (clients : List Client) (place : ℕ) (client : Client) → slice_index_or (with_client_at clients place client) place new_client ≡ client
 put_same [] zero client = refl
 put_same [] (suc place) client = put_same [] place client
 put_same (first ∷ clients) zero client = refl
@@ -84,7 +84,7 @@ put_other (first ∷ clients) zero (suc other) client differs = refl
 put_other (first ∷ clients) (suc place) zero client differs = refl
 put_other (first ∷ clients) (suc place) (suc other) client differs = put_other clients place other client (λ same. differs (ap suc same))
 
-before : (number : ℕ) → suc number - 1 ≡ number
+pub before : (number : ℕ) → suc number - 1 ≡ number
 before number = omega arith
 
 -- what an event makes of what a client has of a type, and of the fates of its edits
@@ -111,7 +111,7 @@ void_step : (setting : Setting) (event : Event) (world : World) (place : ℕ) (k
     → IsStep setting event world (record world { outcomes = Void ∷ world.outcomes }) place kind
 void_step setting event world place kind = quiet_step setting event world (record world { outcomes = Void ∷ world.outcomes }) place kind refl refl
 
-last_is : (outcomes : List EventOutcome) (outcome : EventOutcome) → outcome_at (outcome ∷ outcomes) (length (outcome ∷ outcomes)) ≡ outcome
+pub last_is : (outcomes : List EventOutcome) (outcome : EventOutcome) → outcome_at (outcome ∷ outcomes) (length (outcome ∷ outcomes)) ≡ outcome
 unfolding outcome_at
 last_is outcomes outcome = cond-true _ _ _ (eq-eqb (length (outcome ∷ outcomes)) (length outcomes + 1) (omega arith))
 

@@ -45,7 +45,7 @@ stores-later outcomes later delivery request place version stores = by (eqb deli
         (not_come outcomes delivery (omega (arith, eqb-true _ _ is))) stores)
     by false is = stores
 
-IsSentBy-later : (outcomes : List EventOutcome) (later : EventOutcome) (client version : ℕ) → IsSentBy outcomes client version
+pub IsSentBy-later : (outcomes : List EventOutcome) (later : EventOutcome) (client version : ℕ) → IsSentBy outcomes client version
     → IsSentBy (later ∷ outcomes) client version
 IsSentBy-later outcomes later client version sent = record {
   event = sent.event;

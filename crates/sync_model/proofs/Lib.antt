@@ -32,3 +32,4 @@ pub mod FateMakes
 pub mod FateSettlements
 pub mod FateNumbers
 pub mod FateValues
+pub mod FateStays
