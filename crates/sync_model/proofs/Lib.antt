@@ -33,3 +33,4 @@ pub mod FateSettlements
 pub mod FateNumbers
 pub mod FateValues
 pub mod FateStays
+pub mod FateTruths
