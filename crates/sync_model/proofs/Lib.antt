@@ -34,3 +34,4 @@ pub mod FateNumbers
 pub mod FateValues
 pub mod FateStays
 pub mod FateTruths
+pub mod FateEdits
