@@ -43,7 +43,7 @@ use Rattle.sync_model.proofs.FateNumbers.{follows_other, IsCounted, stepped_coun
 use Rattle.sync_model.proofs.FateTruths.{followed_true, acked_true, met_true}
 
 -- two facts of each item
-all_both : {X : Type 0} (P Q : X → Type 0) (xs : List X) → AllByRecursion P xs → AllByRecursion Q xs → AllByRecursion (λ x. P x × Q x) xs
+pub all_both : {X : Type 0} (P Q : X → Type 0) (xs : List X) → AllByRecursion P xs → AllByRecursion Q xs → AllByRecursion (λ x. P x × Q x) xs
 all_both P Q [] one other = tt
 all_both P Q (x ∷ xs) one other = ((one.0, other.0), all_both P Q xs one.1 other.1)
 
@@ -88,12 +88,12 @@ keys_say place kind edit hash value world facts unsettled other own =
     (λ (entry : List ℕ × KeyState). SaysValue place kind edit value other own entry.1) (side_at world (suc other) own).states
     (facts.keys other own) (own_keys_say place kind edit hash value world unsettled other own))
 
-or_given : (first rest given : Option Fate) → first ≡ None → rest ≡ given → option_or first rest ≡ given
+pub or_given : (first rest given : Option Fate) → first ≡ None → rest ≡ given → option_or first rest ≡ given
 or_given None rest given none is = is
 or_given (Some fate) rest given none is = absurd (none-some fate (sym none))
 
 -- an edit that an event leaves
-left : (setting : Setting) (event : Event) (world : World) (place : ℕ) (kind : Kind) (edit : ℕ) (hash : List ℕ) (value : Value)
+pub left : (setting : Setting) (event : Event) (world : World) (place : ℕ) (kind : Kind) (edit : ℕ) (hash : List ℕ) (value : Value)
     → NumberFacts world → IsUnsettled (suc place) kind edit hash value world
     → (step : IsStep setting event world (stepped setting event world) place kind)
     → IsCounted (side_at world (suc place) kind) (side_at (stepped setting event world) (suc place) kind) step.noted
@@ -127,7 +127,7 @@ follows_own None later edit is = absurd (none-some edit is)
 follows_own (Some number) later edit is = cond-true _ _ _ (eq-eqb number edit (same_Some number edit is))
 
 -- an edit on the same side
-editing_next : (setting : Setting) (schedule : Schedule) (place number : ℕ) (edit : Edit) (before later : List Event) (event : Event)
+pub editing_next : (setting : Setting) (schedule : Schedule) (place number : ℕ) (edit : Edit) (before later : List Event) (event : Event)
     → schedule.events ≡ before ++ event ∷ later → 0 < number
     → NumberFacts (world_before setting schedule before)
     → IsUnsettled (suc place) (edit_kind edit) number (edit_hash setting edit) (edit_value edit) (world_before setting schedule before)

@@ -35,3 +35,4 @@ pub mod FateValues
 pub mod FateStays
 pub mod FateTruths
 pub mod FateEdits
+pub mod FateTurns
