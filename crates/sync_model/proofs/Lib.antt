@@ -36,3 +36,5 @@ pub mod FateStays
 pub mod FateTruths
 pub mod FateEdits
 pub mod FateTurns
+pub mod FateStarts
+pub mod FateLaw
