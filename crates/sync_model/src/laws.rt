@@ -1,5 +1,5 @@
 //! What is proved of every run, by the definitions alone.
-ghost use Rattle.sync_model.specs.Laws.{EveryCaughtUpSideAgrees, EveryEventKeepsBased, EveryWriteIsBased};
+ghost use Rattle.sync_model.specs.Laws.{EveryCaughtUpSideAgrees, EveryEventKeepsBased, EveryFateIsTrue, EveryWriteIsBased};
 
 /// Whatever a schedule delivers, and however often: the server replaced an entity only by a commit that
 /// was based on the version that it had. So a repeated commit acts at most once for each entry.
@@ -12,4 +12,11 @@ pub fn every_write_is_based()
 /// nothing to send of a type, shows the value of the last write of each key of that type.
 pub fn every_caught_up_side_agrees()
     ensures { EveryCaughtUpSideAgrees }
+{}
+
+/// Whatever is delivered and lost, and however often: an edit that was acknowledged to its user stands on its
+/// client, or it was followed there by a later one, or the server has its value, or it lost to a write or was
+/// merged with one by a row of the conflict table; and its fate says which, and by which edit or write.
+pub fn every_fate_is_true()
+    ensures { EveryFateIsTrue }
 {}

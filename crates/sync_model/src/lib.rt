@@ -13,7 +13,7 @@ mod state;
 pub use conflict::{Choice, Decision, Resolution, Row};
 pub use event::{Event, EventOutcome, Schedule};
 pub use fate::{Fate, Note, Settlement};
-pub use laws::{every_caught_up_side_agrees, every_write_is_based};
+pub use laws::{every_caught_up_side_agrees, every_fate_is_true, every_write_is_based};
 pub use message::{
     Ack, Answer, Batch, Call, Content, Entry, Key, Marker, Offer, Reply, Request, Task, Update,
     Updates, Verdict,

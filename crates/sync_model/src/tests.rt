@@ -9,3 +9,8 @@ fn has_a_law() {
 fn has_the_law_of_agreement() {
     every_caught_up_side_agrees();
 }
+
+#[test]
+fn has_the_law_of_fates() {
+    every_fate_is_true();
+}
