@@ -12,7 +12,7 @@ use Rattle.sync_model.specs.KeyStates.{new_state}
 use Rattle.sync_model.specs.Sides.{States, state_at, with_state, replaced}
 
 -- two hashes that a test finds equal are one
-tested_same : (a b : List ℕ) → is_eq (slice_cmp nat_cmp a b) ≡ true → a ≡ b
+pub tested_same : (a b : List ℕ) → is_eq (slice_cmp nat_cmp a b) ≡ true → a ≡ b
 tested_same a b is = (bytes_eq-Decides a b).0 (sym (is_eq-slice_cmp a b) ∙ is)
 
 tested_itself : (a : List ℕ) → is_eq (slice_cmp nat_cmp a a) ≡ true

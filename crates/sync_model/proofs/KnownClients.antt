@@ -14,7 +14,7 @@ use Rattle.sync_model.proofs.Longer.{ClientFacts-later}
 use Rattle.sync_model.proofs.KnownSides.{new_side-SideFacts, restarted-SideFacts}
 
 -- what holds of each side of a client does of the sides of one with another side of a type
-with_side_keeps : (P : Kind → Side → Type 0) (client : Client) (kind : Kind) (side : Side) → P kind side
+pub with_side_keeps : (P : Kind → Side → Type 0) (client : Client) (kind : Kind) (side : Side) → P kind side
     → ((other : Kind) → P other (side_of client other)) → (other : Kind) → P other (side_of (with_side client kind side) other)
 with_side_keeps P client Nigori side here all Nigori = here
 with_side_keeps P client Nigori side here all Preference = all Preference
@@ -54,7 +54,7 @@ with_side-ClientFacts history outcomes client kind side is more facts = record {
 }
 
 -- what holds of each side of a client does where another client has the same sides
-alike : (P : Kind → Side → Type 0) (old new : Client) → new.nigori ≡ old.nigori → new.preference ≡ old.preference → new.password ≡ old.password
+pub alike : (P : Kind → Side → Type 0) (old new : Client) → new.nigori ≡ old.nigori → new.preference ≡ old.preference → new.password ≡ old.password
     → ((kind : Kind) → P kind (side_of old kind)) → (kind : Kind) → P kind (side_of new kind)
 alike P old new nigori preference password all Nigori = subst (λ (side : Side). P Nigori side) (sym nigori) (all Nigori)
 alike P old new nigori preference password all Preference = subst (λ (side : Side). P Preference side) (sym preference) (all Preference)

@@ -57,7 +57,7 @@ reply_to-true is_invalid birthday history request within kind =
     reply_by is_invalid history kind request.call (is_foreign birthday request.birthday) (within kind)
 
 -- what holds of each client still does where one of them is another one of which it holds
-set_client_keeps : (P : Client → Type 0) (clients : List Client) (place : ℕ) (client : Client) → P new_client → P client
+pub set_client_keeps : (P : Client → Type 0) (clients : List Client) (place : ℕ) (client : Client) → P new_client → P client
     → ((other : ℕ) → P (slice_index_or clients other new_client)) → (other : ℕ) → P (slice_index_or (with_client_at clients place client) other new_client)
 set_client_keeps P [] zero client new here all zero = here
 set_client_keeps P [] zero client new here all (suc other) = new
@@ -219,7 +219,7 @@ stepped-facts setting (GivePass number pass) world facts =
     acted-facts world number _ (λ client. give_pass_effect-facts world.history world.outcomes setting (pass_at world.passes pass) client) facts
 
 -- the world before any event
-opening_client : (P : Client → Type 0) → P new_client → (clients place : ℕ) → P (slice_index_or (replicate clients new_client) place new_client)
+pub opening_client : (P : Client → Type 0) → P new_client → (clients place : ℕ) → P (slice_index_or (replicate clients new_client) place new_client)
 opening_client P new zero place = new
 opening_client P new (suc clients) zero = new
 opening_client P new (suc clients) (suc place) = opening_client P new clients place

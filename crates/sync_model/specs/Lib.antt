@@ -19,3 +19,4 @@ pub mod Laws
 pub mod Facts
 pub mod Deliveries
 pub mod KeyFacts
+pub mod FateFacts

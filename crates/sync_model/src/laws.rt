@@ -1,5 +1,5 @@
 //! What is proved of every run, by the definitions alone.
-ghost use Rattle.sync_model.specs.Laws.{EveryEventKeepsBased, EveryWriteIsBased, EveryEntryWritesOnce, EveryCaughtUpSideAgrees, NoLockIsLost, EveryCurrentClientHasTheKeys};
+ghost use Rattle.sync_model.specs.Laws.{EveryEventKeepsBased, EveryWriteIsBased, EveryEntryWritesOnce, EveryCaughtUpSideAgrees, EveryFateIsTrue, NoLockIsLost, EveryCurrentClientHasTheKeys};
 
 /// Whatever a schedule delivers, and however often: the server replaced an entity only by a commit that
 /// was based on the version that it had. So a repeated commit acts at most once for each entry.
@@ -25,4 +25,11 @@ pub fn every_caught_up_side_agrees()
 pub fn no_key_is_lost()
     ensures history { NoLockIsLost }
     ensures clients { EveryCurrentClientHasTheKeys }
+{}
+
+/// Whatever is delivered and lost, and however often: an edit that was acknowledged to its user stands on its
+/// client, or it was followed there by a later one, or the server has its value, or it lost to a write or was
+/// merged with one by a row of the conflict table; and its fate says which, and by which edit or write.
+pub fn every_fate_is_true()
+    ensures { EveryFateIsTrue }
 {}

@@ -19,3 +19,8 @@ fn has_a_law_on_entries() {
 fn has_a_law_on_keys() {
     no_key_is_lost();
 }
+
+#[test]
+fn has_the_law_of_fates() {
+    every_fate_is_true();
+}

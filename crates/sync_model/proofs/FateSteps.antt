@@ -1,0 +1,165 @@
+-- What an event makes of a client's keys of a type, and which edits it settles: nothing, an edit, or a turn.
+use Rattle.std.proofs.Common.{◌≡◌, ℕ, ◌+◌, ◌++◌, ◌⊎◌, Bool, true, false, cond, List, [], ◌∷◌, length, Option, Some, None, is_some, refl, sym, ap, ◌∙◌, subst, eqb, inl, inr, IfSome, ◌||◌, ◌&&◌, not}
+use Rattle.std.specs.Option.{option_or}
+use Rattle.client_tags.specs.declared.Kind.{Kind}
+use Rattle.client_tags.specs.declared.Kind.TheVariants.{Nigori, Preference, Password}
+use Rattle.key_derivation.specs.declared.NigoriKey.{NigoriKey}
+use Rattle.sync_values.specs.declared.edit.Edit.{Edit as UserEdit}
+use Rattle.sync_values.specs.declared.edit.Edit.TheVariants.{SetNigori}
+use Rattle.sync_values.specs.declared.value.Value.{Value}
+use Rattle.sync_model.specs.declared.conflict.Decision.{Decision}
+use Rattle.sync_model.specs.declared.event.Event.{Event}
+use Rattle.sync_model.specs.declared.event.Event.TheVariants.{Edit, Cut, Turn, Gather, Post, Ask, Offer, Lose, Crash, Deliver, Answer, SetPass, GivePass}
+use Rattle.sync_model.specs.declared.event.EventOutcome.{EventOutcome}
+use Rattle.sync_model.specs.declared.event.EventOutcome.TheVariants.{Done, Requested}
+use Rattle.sync_model.specs.declared.fate.Fate.{Fate}
+use Rattle.sync_model.specs.declared.message.Batch.{Batch}
+use Rattle.sync_model.specs.declared.message.Reply.{Reply}
+use Rattle.sync_model.specs.declared.message.Request.{Request}
+use Rattle.sync_model.specs.declared.message.Content.{Content}
+use Rattle.sync_model.specs.declared.message.Task.{Task}
+use Rattle.sync_model.specs.declared.message.Task.TheVariants.{Batch as Updating, Acks}
+use Rattle.sync_model.specs.Values.{same_kind}
+use Rattle.sync_model.specs.Edits.{edit_kind, edit_value}
+use Rattle.sync_model.specs.Settings.{Setting, decided_by, with_key}
+use Rattle.sync_model.specs.KeyStates.{edited}
+use Rattle.sync_model.specs.Sides.{Side, state_at, with_state, side_edited, after_task, task_notes, mailed}
+use Rattle.sync_model.specs.Clients.{Client, Effect, side_of, with_side, restarted, plain_effect, wanted_name, opens, bag_with, batch_mailed}
+use Rattle.sync_model.specs.Changes.{edit_hash, follows, edit_refusal, edit_taken, edit_effect, change_effect, cut_short, cut_effect, crash_effect, pass_value, set_pass_refusal, set_pass_effect, give_pass_refusal, give_pass_effect}
+use Rattle.sync_model.specs.Sending.{holding, gathered, gathering, is_gather_void, gather_effect, ask_of, is_busy, ask_effect, commit_of, offer_effect, lose_effect}
+use Rattle.sync_model.specs.Receiving.{posted, post_effect_at, post_effect, turn_effect_at, turn_effect, told, is_other_store, is_fit, answered_with, answer_effect}
+use Rattle.sync_model.specs.Report.{is_void}
+use Rattle.sync_model.specs.Worlds.{World, client_at, pass_at}
+use Rattle.sync_model.specs.Laws.{user_of, edit_by}
+use Rattle.sync_model.proofs.Writes.{same_kind-refl}
+use Rattle.sync_model.proofs.KnownClients.{with_side_keeps}
+use Rattle.sync_model.proofs.FateKeys.{fate_in}
+
+-- a side has the same keys and the same last number
+abbrev pub IsKept : Side → Side → Type 0
+IsKept old new = (new.states ≡ old.states) × (new.last_edit ≡ old.last_edit)
+
+-- an event leaves the keys of a side, and settles none of its edits
+pub record IsQuiet (old new : Side) (noted : ℕ → Option Fate) : Type 0 where
+  pub kept : IsKept old new
+  pub silent : (edit : ℕ) → noted edit ≡ None
+
+-- an event makes an edit on a side, which may follow another one
+pub record IsEditing (setting : Setting) (event : Event) (world : World) (number : ℕ) (kind : Kind) (old new : Side) (noted : ℕ → Option Fate) (outcome : EventOutcome) : Type 0 where
+  pub edit : UserEdit
+  pub of_kind : edit_kind edit ≡ kind
+  pub user : user_of event ≡ number
+  pub makes : edit_by setting world event ≡ Some edit
+  pub done : is_void outcome ≡ false
+  pub states : new.states ≡ with_state old.states (edit_hash setting edit)
+      (edited (state_at old.states (edit_hash setting edit)) (edit_value edit) (old.last_edit + 1))
+  pub last : new.last_edit ≡ old.last_edit + 1
+  pub settles : (other : ℕ) → noted other ≡ fate_in (follows (state_at old.states (edit_hash setting edit)).due (old.last_edit + 1)) other
+
+-- an event is a turn of a side
+pub record IsTurning (setting : Setting) (event : Event) (number : ℕ) (kind : Kind) (old new : Side) (noted : ℕ → Option Fate) : Type 0 where
+  pub is : event ≡ Turn number kind
+  pub task : Task
+  pub tasks : List Task
+  pub first : old.mailbox ≡ task ∷ tasks
+  pub states : new.states ≡ (after_task (decided_by setting kind) (record old { mailbox = tasks }) task).states
+  pub last : new.last_edit ≡ old.last_edit
+  pub settles : (other : ℕ) → noted other ≡ fate_in (task_notes (decided_by setting kind) old.states task) other
+
+-- what an event makes of a side
+abbrev pub Makes : Setting → Event → World → ℕ → Kind → Side → Side → (ℕ → Option Fate) → EventOutcome → Type 0
+Makes setting event world number kind old new noted outcome =
+    IsQuiet old new noted ⊎ (IsEditing setting event world number kind old new noted outcome ⊎ IsTurning setting event number kind old new noted)
+
+-- the fate that an effect gives to an edit of a type
+abbrev pub noted_by : Effect → Kind → ℕ → Option Fate
+noted_by effect kind edit = cond (same_kind effect.kind kind) (fate_in effect.notes edit) None
+
+-- what an effect makes of each side of a client
+abbrev pub EffectMakes : Setting → Event → World → ℕ → Client → Option Effect → Type 0
+EffectMakes setting event world number client effect = IfSome effect (λ made. (kind : Kind)
+    → Makes setting event world number kind (side_of client kind) (side_of made.client kind) (noted_by made kind) made.outcome)
+
+abbrev nothing : Option Fate
+nothing = None
+
+pub none_noted : (same : Bool) → cond same nothing nothing ≡ nothing
+none_noted true = refl
+none_noted false = refl
+
+-- all sides of a client are kept
+abbrev pub AreKept : Client → Client → Type 0
+AreKept old new = (kind : Kind) → IsKept (side_of old kind) (side_of new kind)
+
+pub plain_makes : (setting : Setting) (event : Event) (world : World) (number : ℕ) (client new : Client) (outcome : EventOutcome)
+    → AreKept client new → EffectMakes setting event world number client (Some (plain_effect new outcome))
+plain_makes setting event world number client new outcome kept kind =
+    inl record { kept = kept kind; silent = λ edit. none_noted (same_kind Nigori kind) }
+
+-- a client with another side of a type
+pub side_put : (client : Client) (kind other : Kind) (side : Side)
+    → ((kind ≡ other) × (side_of (with_side client kind side) other ≡ side))
+    ⊎ ((same_kind kind other ≡ false) × (side_of (with_side client kind side) other ≡ side_of client other))
+side_put client Nigori Nigori side = inl (refl, refl)
+side_put client Nigori Preference side = inr (refl, refl)
+side_put client Nigori Password side = inr (refl, refl)
+side_put client Preference Nigori side = inr (refl, refl)
+side_put client Preference Preference side = inl (refl, refl)
+side_put client Preference Password side = inr (refl, refl)
+side_put client Password Nigori side = inr (refl, refl)
+side_put client Password Preference side = inr (refl, refl)
+side_put client Password Password side = inl (refl, refl)
+
+-- what an event of one type makes of the sides: of another type nothing
+pub makes_by : (setting : Setting) (event : Event) (world : World) (number : ℕ) (client : Client) (kind : Kind) (side : Side) (effect : Effect)
+    → effect.client ≡ with_side client kind side → effect.kind ≡ kind
+    → Makes setting event world number kind (side_of client kind) side (fate_in effect.notes) effect.outcome
+    → (other : Kind) → Makes setting event world number other (side_of client other) (side_of effect.client other) (noted_by effect other) effect.outcome
+makes_by setting event world number client kind side effect is of_kind makes other = by (side_put client kind other side)
+  where
+    here : (noted : ℕ → Option Fate) → ((edit : ℕ) → noted edit ≡ fate_in effect.notes edit) → (new : Side) → new ≡ side
+        → Makes setting event world number kind (side_of client kind) side (fate_in effect.notes) effect.outcome
+        → Makes setting event world number kind (side_of client kind) new noted effect.outcome
+    here noted same new put (inl quiet) = inl record {
+      kept = (ap (λ (found : Side). found.states) put ∙ quiet.kept.0, ap (λ (found : Side). found.last_edit) put ∙ quiet.kept.1);
+      silent = λ edit. same edit ∙ quiet.silent edit;
+    }
+    here noted same new put (inr (inl editing)) = inr (inl record {
+      edit = editing.edit;
+      of_kind = editing.of_kind;
+      user = editing.user;
+      makes = editing.makes;
+      done = editing.done;
+      states = ap (λ (found : Side). found.states) put ∙ editing.states;
+      last = ap (λ (found : Side). found.last_edit) put ∙ editing.last;
+      settles = λ edit. same edit ∙ editing.settles edit;
+    })
+    here noted same new put (inr (inr turning)) = inr (inr record {
+      is = turning.is;
+      task = turning.task;
+      tasks = turning.tasks;
+      first = turning.first;
+      states = ap (λ (found : Side). found.states) put ∙ turning.states;
+      last = ap (λ (found : Side). found.last_edit) put ∙ turning.last;
+      settles = λ edit. same edit ∙ turning.settles edit;
+    })
+
+    noted_here : (edit : ℕ) → noted_by effect kind edit ≡ fate_in effect.notes edit
+    noted_here edit = ap (λ (same : Bool). cond same (fate_in effect.notes edit) None)
+        (ap (λ (found : Kind). same_kind found kind) of_kind ∙ same_kind-refl kind)
+
+    noted_there : (edit : ℕ) → same_kind kind other ≡ false → noted_by effect other edit ≡ None
+    noted_there edit differs = ap (λ (same : Bool). cond same (fate_in effect.notes edit) None)
+        (ap (λ (found : Kind). same_kind found other) of_kind ∙ differs)
+
+    by : ((kind ≡ other) × (side_of (with_side client kind side) other ≡ side))
+        ⊎ ((same_kind kind other ≡ false) × (side_of (with_side client kind side) other ≡ side_of client other))
+        → Makes setting event world number other (side_of client other) (side_of effect.client other) (noted_by effect other) effect.outcome
+    by (inl put) = subst (λ (found : Kind). Makes setting event world number found (side_of client found) (side_of effect.client found) (noted_by effect found) effect.outcome)
+        put.0 (here (noted_by effect kind) noted_here (side_of effect.client kind)
+        (ap (λ (found : Client). side_of found kind) is ∙ subst (λ (found : Kind). side_of (with_side client kind side) found ≡ side) (sym put.0) put.1) makes)
+    by (inr put) = inl record {
+      kept = (ap (λ (found : Client). (side_of found other).states) is ∙ ap (λ (found : Side). found.states) put.1,
+        ap (λ (found : Client). (side_of found other).last_edit) is ∙ ap (λ (found : Side). found.last_edit) put.1);
+      silent = λ edit. noted_there edit put.0;
+    }

@@ -1,0 +1,5 @@
+use Rattle.sync_model.proofs.FateLaw.{world_of-EveryFateIsTrue}
+use Rattle.sync_model.proofs.laws.every_fate_is_true.Goals as goal
+
+pub returns : goal.returns
+returns c = world_of-EveryFateIsTrue
