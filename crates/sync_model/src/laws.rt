@@ -1,5 +1,6 @@
 //! What is proved of every run, by the definitions alone.
-ghost use Rattle.sync_model.specs.Laws.{EveryCaughtUpSideAgrees, EveryEventKeepsBased, EveryFateIsTrue, EveryWriteIsBased};
+ghost use Rattle.sync_model.specs.Laws.{EveryCaughtUpSideAgrees, EveryEventKeepsBased, EveryWriteIsBased};
+ghost use Rattle.sync_model.specs.Laws.{EveryFateIsTrue};
 
 /// Whatever a schedule delivers, and however often: the server replaced an entity only by a commit that
 /// was based on the version that it had. So a repeated commit acts at most once for each entry.
