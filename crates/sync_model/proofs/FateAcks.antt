@@ -1,5 +1,5 @@
 -- An edit that stands still does after some acknowledgements, or one of them, which has its number, settles it.
-use Rattle.std.proofs.Common.{◌≡◌, ℕ, ◌<◌, ◌≤◌, ◌⊎◌, Bool, true, false, cond, List, [], ◌∷◌, ◌++◌, Option, Some, None, is_some, refl, sym, ap, ◌∙◌, subst, eqb, leb, arith, inl, inr, IfSome, nat_lt, nat_le, le_antisymm}
+use Rattle.std.proofs.Common.{◌≡◌, ℕ, ◌<◌, ◌≤◌, ◌⊎◌, Bool, true, false, cond, List, [], ◌∷◌, ◌++◌, Option, Some, None, is_some, refl, sym, ap, ◌∙◌, subst, leb, arith, inl, inr, IfSome, nat_lt, nat_le}
 use Rattle.std.specs.List.{AllByRecursion}
 use Rattle.std.proofs.lemmas.Bool.{eq-eqb, ne_eqb, cond-true, cond-false, cases_eq, leb-true, ltb-false, or_parts}
 use Rattle.std.proofs.lemmas.Option.{none-some, same_Some}
@@ -11,9 +11,9 @@ use Rattle.sync_model.specs.declared.message.Ack.{Ack}
 use Rattle.sync_model.specs.declared.state.KeyState.{KeyState}
 use Rattle.sync_model.specs.KeyStates.{is_ignored, still_due, acknowledged, ended}
 use Rattle.sync_model.specs.Sides.{States, state_at, replaced, after_ack, after_acks, note_of, notes_of}
-use Rattle.sync_model.specs.FateFacts.{IsNumbered, AreNumbered, IsOnlyOf, StandsOn}
+use Rattle.sync_model.specs.FateFacts.{AreNumbered, IsOnlyOf, StandsOn}
 use Rattle.sync_model.proofs.KeyLookups.{replaced-IsSetAt}
-use Rattle.sync_model.proofs.FateKeys.{Each, each_replaced, numbered_at, fate_in, after_ack_numbered}
+use Rattle.sync_model.proofs.FateKeys.{each_replaced, numbered_at, fate_in, after_ack_numbered}
 use Rattle.sync_model.proofs.FateUpdates.{only_at, none_first, settled_first, StillStands}
 
 -- the key's state is replaced by one with this edit due, or by that of another edit
@@ -41,13 +41,13 @@ unfolding acknowledged
 acknowledged_last state ack = by (is_ignored state ack)
   where
     by : (ignored : Bool) → (cond ignored state record {
-        known = ack.version;
-        base = ack.value;
-        own = cond (is_some (still_due state.due ack.number)) state.own ack.value;
-        due = still_due state.due ack.number;
-        last_edit = state.last_edit;
-        lock = ack.lock;
-      }).last_edit ≡ state.last_edit
+      known = ack.version;
+      base = ack.value;
+      own = cond (is_some (still_due state.due ack.number)) state.own ack.value;
+      due = still_due state.due ack.number;
+      last_edit = state.last_edit;
+      lock = ack.lock;
+    }).last_edit ≡ state.last_edit
     by true = refl
     by false = refl
 
@@ -105,7 +105,7 @@ ended_note None edit version is = absurd (none-some edit is)
 ended_note (Some number) edit version is = cond-true _ _ _ (eq-eqb number edit (same_Some number edit is))
 
 -- an acknowledgement of the edit's key, by what it leaves due
-here_by : (Q : Ack → Type 0) (edit : ℕ) (value : Value) (states : States) (ack : Ack) (left : Option ℕ) (ignored : Bool)
+ack_here_by : (Q : Ack → Type 0) (edit : ℕ) (value : Value) (states : States) (ack : Ack) (left : Option ℕ) (ignored : Bool)
     → is_ignored (state_at states ack.hash) ack ≡ ignored → left ≡ cond (leb edit ack.number) None (Some edit) → Q ack
     → (state_at states ack.hash).last_edit ≡ edit → StandsOn edit ack.hash value states
     → AfterAck Q edit ack.hash value
@@ -118,10 +118,13 @@ here_by : (Q : Ack → Type 0) (edit : ℕ) (value : Value) (states : States) (a
       lock = ack.lock;
     }))
     (note_of (cond ignored None (cond (is_some left) None (state_at states ack.hash).due)) ack.version)
-here_by Q edit value states ack left true is left_is holds last stands =
-    inl (replaced_stands edit ack.hash value states ack.hash (state_at states ack.hash) (λ same. (stands.due, stands.own))
-    (λ is. (refl, stands.due, stands.own)) stands, refl)
-here_by Q edit value states ack None false is left_is holds last stands = by (leb edit ack.number) refl left_is
+ack_here_by Q edit value states ack left true is left_is holds last stands =
+    inl (
+      replaced_stands edit ack.hash value states ack.hash (state_at states ack.hash) (λ same. (stands.due, stands.own))
+          (λ is. (refl, stands.due, stands.own)) stands,
+      refl,
+    )
+ack_here_by Q edit value states ack None false is left_is holds last stands = by (leb edit ack.number) refl left_is
   where
     by : (over : Bool) → leb edit ack.number ≡ over → None ≡ cond over None (Some edit) → AfterAck Q edit ack.hash value
         (replaced states ack.hash record {
@@ -133,15 +136,19 @@ here_by Q edit value states ack None false is left_is holds last stands = by (le
           lock = ack.lock;
         })
         (note_of (state_at states ack.hash).due ack.version)
-    by true over is_left = inr (Committed ack.version, ended_note (state_at states ack.hash).due edit ack.version stands.due, record {
-      ack = ack;
-      holds = holds;
-      same = refl;
-      numbered = omega (arith, leb-true _ _ over, last, within_last (state_at states ack.hash) ack is);
-      is = refl;
-    })
+    by true over is_left = inr (
+      Committed ack.version,
+      ended_note (state_at states ack.hash).due edit ack.version stands.due,
+      record {
+        ack = ack;
+        holds = holds;
+        same = refl;
+        numbered = omega (arith, leb-true _ _ over, last, within_last (state_at states ack.hash) ack is);
+        is = refl;
+      },
+    )
     by false over is_left = absurd (none-some edit is_left)
-here_by Q edit value states ack (Some due) false is left_is holds last stands = by (leb edit ack.number) left_is
+ack_here_by Q edit value states ack (Some due) false is left_is holds last stands = by (leb edit ack.number) left_is
   where
     by : (over : Bool) → Some due ≡ cond over None (Some edit) → AfterAck Q edit ack.hash value
         (replaced states ack.hash record {
@@ -162,15 +169,18 @@ here_by Q edit value states ack (Some due) false is left_is holds last stands = 
           last_edit = (state_at states ack.hash).last_edit;
           lock = ack.lock;
         }
-        in inl (replaced_stands edit ack.hash value states ack.hash state (λ same. (is_left, stands.own))
-        (λ is. (refl, is_left, stands.own)) stands, refl)
+        in inl (
+          replaced_stands edit ack.hash value states ack.hash state (λ same. (is_left, stands.own))
+              (λ is. (refl, is_left, stands.own)) stands,
+          refl,
+        )
 
-here : (Q : Ack → Type 0) (edit : ℕ) (value : Value) (states : States) (ack : Ack) → Q ack
+ack_here : (Q : Ack → Type 0) (edit : ℕ) (value : Value) (states : States) (ack : Ack) → Q ack
     → (state_at states ack.hash).last_edit ≡ edit → StandsOn edit ack.hash value states
     → AfterAck Q edit ack.hash value (after_ack states ack) (note_of (ended (state_at states ack.hash) ack) ack.version)
 unfolding after_ack acknowledged ended
-here Q edit value states ack holds last stands =
-    here_by Q edit value states ack (still_due (state_at states ack.hash).due ack.number) (is_ignored (state_at states ack.hash) ack) refl
+ack_here Q edit value states ack holds last stands =
+    ack_here_by Q edit value states ack (still_due (state_at states ack.hash).due ack.number) (is_ignored (state_at states ack.hash) ack) refl
     (ap (λ (due : Option ℕ). still_due due ack.number) stands.due) holds last stands
 
 -- one acknowledgement
@@ -184,7 +194,7 @@ ack_step Q edit last hash value states ack some holds numbered stands = by (case
     by (inl is) =
         let same : ack.hash ≡ hash = (only_at edit hash value states ack.hash some stands is).0
         in subst (λ (key : List ℕ). AfterAck Q edit key value (after_ack states ack) (note_of (ended (state_at states ack.hash) ack) ack.version)) same
-        (here Q edit value states ack holds is (subst (λ (key : List ℕ). StandsOn edit key value states) (sym same) stands))
+        (ack_here Q edit value states ack holds is (subst (λ (key : List ℕ). StandsOn edit key value states) (sym same) stands))
     by (inr other) = inl (other_ack edit last hash value states ack numbered other stands)
 
 acks_walk_by : (Q : Ack → Type 0) (edit : ℕ) (hash : List ℕ) (value : Value) (states : States) (ack : Ack) (acks : List Ack)

@@ -1,5 +1,5 @@
 -- An edit that is not settled is not after a further event, or that event settles it as its fate says.
-use Rattle.std.proofs.Common.{◌≡◌, ℕ, suc, ◌+◌, ◌<◌, ◌≤◌, ◌++◌, ◌⊎◌, Bool, true, false, cond, List, [], ◌∷◌, Option, Some, None, refl, sym, ap, ◌∙◌, subst, arith, inl, inr, bytes_eq, IfSome}
+use Rattle.std.proofs.Common.{◌≡◌, ℕ, suc, ◌+◌, ◌<◌, ◌≤◌, ◌++◌, ◌⊎◌, Bool, true, false, List, [], ◌∷◌, Option, Some, None, refl, sym, ap, ◌∙◌, subst, arith, inl, inr, bytes_eq}
 use Rattle.std.specs.List.{AllByRecursion}
 use Rattle.std.specs.Option.{option_or}
 use Rattle.std.proofs.lemmas.Bool.{cases_eq, false≢true, cond-true, eq-eqb}
@@ -9,38 +9,30 @@ use Rattle.client_tags.specs.declared.Kind.{Kind}
 use Rattle.sync_values.specs.declared.edit.Edit.{Edit}
 use Rattle.sync_values.specs.declared.value.Value.{Value}
 use Rattle.sync_model.specs.declared.event.Event.{Event}
-use Rattle.sync_model.specs.declared.event.Event.TheVariants.{Turn}
-use Rattle.sync_model.specs.declared.event.EventOutcome.{EventOutcome}
 use Rattle.sync_model.specs.declared.event.Schedule.{Schedule}
 use Rattle.sync_model.specs.declared.fate.Fate.{Fate}
 use Rattle.sync_model.specs.declared.fate.Fate.TheVariants.{Followed}
-use Rattle.sync_model.specs.declared.message.Ack.{Ack}
-use Rattle.sync_model.specs.declared.message.Task.{Task}
-use Rattle.sync_model.specs.declared.message.Task.TheVariants.{Batch as Updating, Acks}
 use Rattle.sync_model.specs.declared.state.KeyState.{KeyState}
 use Rattle.sync_model.specs.Values.{same_kind}
 use Rattle.sync_model.specs.Edits.{edit_kind, edit_value}
-use Rattle.sync_model.specs.Settings.{Setting, decided_by}
+use Rattle.sync_model.specs.Settings.{Setting}
 use Rattle.sync_model.specs.KeyStates.{edited}
-use Rattle.sync_model.specs.Sides.{States, Side, state_at, with_state, after_task, task_notes}
+use Rattle.sync_model.specs.Sides.{States, Side, state_at, with_state}
 use Rattle.sync_model.specs.Changes.{edit_hash, follows}
 use Rattle.sync_model.specs.Fates.{fate_of}
 use Rattle.sync_model.specs.Worlds.{World, stepped}
 use Rattle.sync_model.specs.Laws.{world_before, last_outcome, IsTrueFate}
-use Rattle.sync_model.specs.Facts.{IsTrueUpdate, IsTrueAck, IsTrueTask, AreChained, SideFacts, WorldFacts}
-use Rattle.sync_model.specs.FateFacts.{IsSaidOfAck, IsSaidOfTask, IsNumbered, AreNumbered, side_at, NumberFacts, IsOnlyOf, StandsOn, HasValueOf, IsUnsettled}
+use Rattle.sync_model.specs.FateFacts.{IsNumbered, side_at, NumberFacts, IsOnlyOf, StandsOn, HasValueOf, IsUnsettled}
 use Rattle.sync_model.proofs.Writes.{same_kind-true, same_kind-refl}
 use Rattle.sync_model.proofs.Longer.{all_then}
 use Rattle.sync_model.proofs.KeyLookups.{with_state-IsSetAt}
 use Rattle.sync_model.proofs.FateKeys.{Each, each_put, numbered_at, fate_in}
-use Rattle.sync_model.proofs.FateUpdates.{only_at, other_set, IsSettledBy, updates_walk}
-use Rattle.sync_model.proofs.FateAcks.{IsAckedBy, acks_walk}
-use Rattle.sync_model.proofs.FateOffers.{IsSaidOfKey}
+use Rattle.sync_model.proofs.FateUpdates.{only_at, other_set}
 use Rattle.sync_model.proofs.FateWorlds.{IsSaidOfKeys, stepped-said}
-use Rattle.sync_model.proofs.FateSteps.{IsQuiet, IsEditing, IsTurning, Makes}
+use Rattle.sync_model.proofs.FateSteps.{IsEditing}
 use Rattle.sync_model.proofs.FateSettlements.{IsStep}
-use Rattle.sync_model.proofs.FateNumbers.{follows_other, IsCounted, stepped_counted}
-use Rattle.sync_model.proofs.FateTruths.{followed_true, acked_true, met_true}
+use Rattle.sync_model.proofs.FateNumbers.{follows_other, IsCounted}
+use Rattle.sync_model.proofs.FateTruths.{followed_true}
 
 -- two facts of each item
 pub all_both : {X : Type 0} (P Q : X → Type 0) (xs : List X) → AllByRecursion P xs → AllByRecursion Q xs → AllByRecursion (λ x. P x × Q x) xs
@@ -152,11 +144,13 @@ editing_next setting schedule place number edit before later event splits some f
         → Next setting schedule place number edit (stepped setting event (world_before setting schedule before))
     by true is =
         let same : edit_hash setting editing.edit ≡ edit_hash setting edit = (bytes_eq-Decides (edit_hash setting editing.edit) (edit_hash setting edit)).0 is
-        in inr (Followed (old.last_edit + 1),
-        step.fates number ∙ or_given (fate_of world.settlements (suc place) (edit_kind edit) number) (step.noted number) (Some (Followed (old.last_edit + 1))) unsettled.lacks_fate
-        (editing.settles number ∙ follows_own (state_at old.states (edit_hash setting editing.edit)).due (old.last_edit + 1) number
-        (ap (λ (hash : List ℕ). (state_at old.states hash).due) same ∙ unsettled.stands.due)),
-        followed_true setting schedule place number edit before later event step.noted splits editing same unsettled.counted)
+        in inr (
+          Followed (old.last_edit + 1),
+          step.fates number ∙ or_given (fate_of world.settlements (suc place) (edit_kind edit) number) (step.noted number) (Some (Followed (old.last_edit + 1))) unsettled.lacks_fate
+              (editing.settles number ∙ follows_own (state_at old.states (edit_hash setting editing.edit)).due (old.last_edit + 1) number
+              (ap (λ (hash : List ℕ). (state_at old.states hash).due) same ∙ unsettled.stands.due)),
+          followed_true setting schedule place number edit before later event step.noted splits editing same unsettled.counted,
+        )
     by false is =
         let differs : edit_hash setting editing.edit ≡ edit_hash setting edit → ⊥
         = λ same. false≢true (sym is ∙ (bytes_eq-Decides (edit_hash setting editing.edit) (edit_hash setting edit)).1 same)
@@ -168,4 +162,3 @@ editing_next setting schedule place number edit before later event splits some f
         (state_at old.states (edit_hash setting editing.edit)).last_edit (old.last_edit + 1) number
         (numbered_at old.last_edit old.states (edit_hash setting editing.edit) (facts.keys place (edit_kind edit))).due
         (λ is. differs (only_at number (edit_hash setting edit) (edit_value edit) old.states (edit_hash setting editing.edit) some unsettled.stands is).0)))
-

@@ -2,7 +2,7 @@
 use Rattle.std.proofs.Common.{◌≡◌, ℕ, ◌+◌, Bool, true, false, cond, List, [], ◌∷◌, length, Option, Some, None, is_some, refl, sym, subst, eqb, IfSome, ◌||◌}
 use Rattle.std.specs.List.{AllByRecursion}
 use Rattle.client_tags.specs.declared.Kind.{Kind}
-use Rattle.client_tags.specs.declared.Kind.TheVariants.{Nigori, Preference, Password}
+use Rattle.client_tags.specs.declared.Kind.TheVariants.{Nigori}
 use Rattle.key_derivation.specs.declared.NigoriKey.{NigoriKey}
 use Rattle.sync_values.specs.declared.edit.Edit.{Edit}
 use Rattle.sync_values.specs.declared.edit.Edit.TheVariants.{SetNigori}
@@ -10,7 +10,6 @@ use Rattle.sync_model.specs.declared.event.EventOutcome.{EventOutcome}
 use Rattle.sync_model.specs.declared.event.EventOutcome.TheVariants.{Done, Requested}
 use Rattle.sync_model.specs.declared.message.Batch.{Batch}
 use Rattle.sync_model.specs.declared.message.Content.{Content}
-use Rattle.sync_model.specs.declared.message.Entry.{Entry}
 use Rattle.sync_model.specs.declared.message.Request.{Request}
 use Rattle.sync_model.specs.declared.message.Task.{Task}
 use Rattle.sync_model.specs.declared.message.Task.TheVariants.{Batch as Updating, Acks}
@@ -23,7 +22,7 @@ use Rattle.sync_model.specs.Changes.{edit_hash, edit_refusal, edit_taken, edit_e
 use Rattle.sync_model.specs.Sending.{sealed, gathered, gathering, is_gather_void, gather_effect, ask_of, is_busy, ask_effect, commit_of, offer_effect, lose_effect}
 use Rattle.sync_model.specs.Receiving.{posted, post_effect_at, post_effect, turn_effect_at, turn_effect}
 use Rattle.sync_model.specs.Worlds.{outcome_at}
-use Rattle.sync_model.specs.FateFacts.{Saying, IsSaidOfEntry, IsSaidOfCall, AreOfDistinctKeys, IsSaidOfTask, IsSaidOfSide, IsSaidOfClient, IsSaidOfOutcome}
+use Rattle.sync_model.specs.FateFacts.{Saying, IsSaidOfEntry, IsSaidOfCall, AreOfDistinctKeys, IsSaidOfTask, IsSaidOfSide, IsSaidOfClient}
 use Rattle.sync_model.proofs.KnownSending.{outcome_at-next}
 use Rattle.sync_model.proofs.TrueAcks.{all_append}
 use Rattle.sync_model.proofs.FateKeys.{Each}

@@ -1,5 +1,5 @@
 -- What holds of each listed key of a side still does once one of them is set; the numbers that tasks leave and settle.
-use Rattle.std.proofs.Common.{◌≡◌, ℕ, ◌≤◌, ◌⊎◌, Bool, true, false, cond, List, [], ◌∷◌, ◌++◌, Option, Some, None, is_some, unwrap_or, refl, arith, sym, subst, eqb, inl, inr, is_eq, nat_cmp, nat_le, Ordering, Less, Equal, Greater, IfSome, ap, ◌∙◌, ◌||◌, not}
+use Rattle.std.proofs.Common.{◌≡◌, ℕ, ◌≤◌, Bool, true, false, cond, List, [], ◌∷◌, ◌++◌, Option, Some, None, is_some, unwrap_or, refl, arith, sym, subst, eqb, is_eq, nat_cmp, nat_le, Ordering, Less, Equal, Greater, IfSome, ap}
 use Rattle.std.specs.BTreeMap.{is_at}
 use Rattle.std.specs.List.{AllByRecursion}
 use Rattle.std.specs.Map.{lookup}
@@ -135,9 +135,12 @@ updates_numbered decided last states (update ∷ updates) all =
     in let rest : AreNumbered last (after_updates decided (after_update decided states update) updates)
     × AreNotedWithin last (update_notes decided (after_update decided states update) updates)
     = updates_numbered decided last (after_update decided states update) updates (after_update_numbered decided last states update all)
-    in (rest.0, all_append (λ note. note.number ≤ last) _ _
-    (noted_within (state_at states update.hash).due (fate_of_update decided (state_at states update.hash) update)
-    (state_at states update.hash).last_edit last here.due here.within) rest.1)
+    in (
+      rest.0,
+      all_append (λ note. note.number ≤ last) _ _
+          (noted_within (state_at states update.hash).due (fate_of_update decided (state_at states update.hash) update)
+          (state_at states update.hash).last_edit last here.due here.within) rest.1,
+    )
 
 -- so does an acknowledgement
 still_numbered : (due : Option ℕ) (number own : ℕ) → IfSome due (λ edit. edit ≡ own) → IfSome (still_due due number) (λ edit. edit ≡ own)
@@ -153,13 +156,13 @@ unfolding acknowledged
 acknowledged_numbered last state ack is = by (is_ignored state ack)
   where
     by : (ignored : Bool) → IsNumbered last (cond ignored state record {
-        known = ack.version;
-        base = ack.value;
-        own = cond (is_some (still_due state.due ack.number)) state.own ack.value;
-        due = still_due state.due ack.number;
-        last_edit = state.last_edit;
-        lock = ack.lock;
-      })
+      known = ack.version;
+      base = ack.value;
+      own = cond (is_some (still_due state.due ack.number)) state.own ack.value;
+      due = still_due state.due ack.number;
+      last_edit = state.last_edit;
+      lock = ack.lock;
+    })
     by true = is
     by false = record { due = still_numbered state.due ack.number state.last_edit is.due; within = is.within }
 
@@ -190,9 +193,12 @@ acks_numbered last states (ack ∷ acks) all =
     let here : IsNumbered last (state_at states ack.hash) = numbered_at last states ack.hash all
     in let rest : AreNumbered last (after_acks (after_ack states ack) acks) × AreNotedWithin last (notes_of (after_ack states ack) acks)
     = acks_numbered last (after_ack states ack) acks (after_ack_numbered last states ack all)
-    in (rest.0, all_append (λ note. note.number ≤ last) _ _
-    (ended_within (ended (state_at states ack.hash) ack) ack.version (state_at states ack.hash).last_edit last
-    (ended_numbered (state_at states ack.hash) ack here.due) here.within) rest.1)
+    in (
+      rest.0,
+      all_append (λ note. note.number ≤ last) _ _
+          (ended_within (ended (state_at states ack.hash) ack) ack.version (state_at states ack.hash).last_edit last
+          (ended_numbered (state_at states ack.hash) ack here.due) here.within) rest.1,
+    )
 
 -- a task leaves and settles only numbers that the side has
 pub task_numbered : (decided : Value → Value → Decision) (last : ℕ) (side : Side) (task : Task) → AreNumbered last side.states

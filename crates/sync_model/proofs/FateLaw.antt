@@ -1,7 +1,7 @@
 -- Each acknowledged edit has one fate, and what it says is so.
-use Rattle.std.proofs.Common.{◌≡◌, ℕ, zero, suc, ◌+◌, ◌<◌, ◌++◌, ◌⊎◌, false, List, [], ◌∷◌, Option, Some, None, refl, sym, ap, ◌∙◌, subst, arith, inl, inr}
+use Rattle.std.proofs.Common.{◌≡◌, ℕ, zero, suc, ◌<◌, ◌++◌, List, [], ◌∷◌, Option, Some, sym, ap, ◌∙◌, subst, arith, inl, inr}
 use Rattle.std.specs.Option.{option_or}
-use Rattle.std.proofs.lemmas.List.{append-nil, append_assoc}
+use Rattle.std.proofs.lemmas.List.{append_assoc}
 use Rattle.client_tags.specs.declared.Kind.{Kind}
 use Rattle.sync_values.specs.declared.edit.Edit.{Edit}
 use Rattle.sync_model.specs.declared.event.Event.{Event}
@@ -14,7 +14,7 @@ use Rattle.sync_model.specs.Fates.{fate_of}
 use Rattle.sync_model.specs.Worlds.{World, stepped, run, world_of}
 use Rattle.sync_model.specs.Laws.{world_before, IsMade, IsTrueFate, EveryFateIsTrue}
 use Rattle.sync_model.specs.Facts.{WorldFacts}
-use Rattle.sync_model.specs.FateFacts.{side_at, NumberFacts, IsUnsettled}
+use Rattle.sync_model.specs.FateFacts.{NumberFacts, IsUnsettled}
 use Rattle.sync_model.proofs.KnownWorlds.{world_of-facts}
 use Rattle.sync_model.proofs.FateStays.{later_world, next_world}
 use Rattle.sync_model.proofs.FateNumbers.{stepped_counted, stepped-numbers, world_of-numbers}

@@ -1,6 +1,5 @@
 -- What each event of a client makes of its keys of each type, and which edits it settles.
-use Rattle.std.proofs.Common.{◌≡◌, ℕ, ◌+◌, ◌++◌, ◌⊎◌, Bool, true, false, cond, List, [], ◌∷◌, length, Option, Some, None, is_some, refl, sym, ap, ◌∙◌, subst, eqb, inl, inr, IfSome, ◌||◌, ◌&&◌, not}
-use Rattle.std.specs.Option.{option_or}
+use Rattle.std.proofs.Common.{◌≡◌, ℕ, ◌++◌, Bool, true, false, cond, List, [], ◌∷◌, length, Option, Some, None, is_some, refl, ap, ◌∙◌, eqb, inl, inr, ◌||◌, not}
 use Rattle.client_tags.specs.declared.Kind.{Kind}
 use Rattle.client_tags.specs.declared.Kind.TheVariants.{Nigori, Preference, Password}
 use Rattle.key_derivation.specs.declared.NigoriKey.{NigoriKey}
@@ -9,7 +8,7 @@ use Rattle.sync_values.specs.declared.edit.Edit.TheVariants.{SetNigori}
 use Rattle.sync_values.specs.declared.value.Value.{Value}
 use Rattle.sync_model.specs.declared.conflict.Decision.{Decision}
 use Rattle.sync_model.specs.declared.event.Event.{Event}
-use Rattle.sync_model.specs.declared.event.Event.TheVariants.{Edit, Cut, Turn, Gather, Post, Ask, Offer, Lose, Crash, Deliver, Answer, SetPass, GivePass}
+use Rattle.sync_model.specs.declared.event.Event.TheVariants.{Cut, Turn}
 use Rattle.sync_model.specs.declared.event.EventOutcome.{EventOutcome}
 use Rattle.sync_model.specs.declared.event.EventOutcome.TheVariants.{Done, Requested}
 use Rattle.sync_model.specs.declared.fate.Fate.{Fate}
@@ -22,18 +21,15 @@ use Rattle.sync_model.specs.declared.message.Task.TheVariants.{Batch as Updating
 use Rattle.sync_model.specs.Values.{same_kind}
 use Rattle.sync_model.specs.Edits.{edit_kind, edit_value}
 use Rattle.sync_model.specs.Settings.{Setting, decided_by, with_key}
-use Rattle.sync_model.specs.KeyStates.{edited}
-use Rattle.sync_model.specs.Sides.{Side, state_at, with_state, side_edited, after_task, task_notes, mailed}
+use Rattle.sync_model.specs.Sides.{Side, side_edited, after_task, task_notes, mailed}
 use Rattle.sync_model.specs.Clients.{Client, Effect, side_of, with_side, restarted, plain_effect, wanted_name, opens, bag_with, batch_mailed}
-use Rattle.sync_model.specs.Changes.{edit_hash, follows, edit_refusal, edit_taken, edit_effect, change_effect, cut_short, cut_effect, crash_effect, pass_value, set_pass_refusal, set_pass_effect, give_pass_refusal, give_pass_effect}
+use Rattle.sync_model.specs.Changes.{edit_hash, edit_refusal, edit_taken, edit_effect, change_effect, cut_short, cut_effect, crash_effect, pass_value, set_pass_refusal, set_pass_effect, give_pass_refusal, give_pass_effect}
 use Rattle.sync_model.specs.Sending.{holding, gathered, gathering, is_gather_void, gather_effect, ask_of, is_busy, ask_effect, commit_of, offer_effect, lose_effect}
 use Rattle.sync_model.specs.Receiving.{posted, post_effect_at, post_effect, turn_effect_at, turn_effect, told, is_other_store, is_fit, answered_with, answer_effect}
 use Rattle.sync_model.specs.Report.{is_void}
-use Rattle.sync_model.specs.Worlds.{World, client_at, pass_at}
+use Rattle.sync_model.specs.Worlds.{World}
 use Rattle.sync_model.specs.Laws.{user_of, edit_by}
-use Rattle.sync_model.proofs.Writes.{same_kind-refl}
 use Rattle.sync_model.proofs.KnownClients.{with_side_keeps}
-use Rattle.sync_model.proofs.FateKeys.{fate_in}
 use Rattle.sync_model.proofs.FateSteps.{IsKept, AreKept, Makes, noted_by, EffectMakes, makes_by, plain_makes}
 
 -- an edit

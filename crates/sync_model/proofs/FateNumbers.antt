@@ -1,6 +1,5 @@
 -- The numbers of edits, of keys, of settlements and of all that is on its way, stay within their sides' last ones.
-use Rattle.std.proofs.Common.{◌≡◌, ℕ, zero, suc, ◌+◌, ◌-◌, ◌<◌, ◌≤◌, ◌++◌, ◌⊎◌, Bool, true, false, cond, List, [], ◌∷◌, Option, Some, None, refl, sym, ap, ◌∙◌, subst, eqb, arith, inl, inr, le_refl, IfSome}
-use Rattle.std.specs.List.{AllByRecursion}
+use Rattle.std.proofs.Common.{◌≡◌, ℕ, zero, suc, ◌+◌, ◌-◌, ◌<◌, ◌≤◌, List, [], ◌∷◌, Option, Some, None, refl, sym, ◌∙◌, subst, arith, inl, inr, le_refl, IfSome}
 use Rattle.std.specs.Option.{option_or}
 use Rattle.std.proofs.lemmas.Bool.{ne_eqb, cond-false}
 use Rattle.client_tags.specs.declared.Kind.{Kind}
@@ -14,19 +13,19 @@ use Rattle.sync_model.specs.declared.state.KeyState.{KeyState}
 use Rattle.sync_model.specs.Edits.{edit_value}
 use Rattle.sync_model.specs.Settings.{Setting, decided_by}
 use Rattle.sync_model.specs.KeyStates.{edited}
-use Rattle.sync_model.specs.Sides.{States, Side, state_at, with_state, after_task, task_notes}
+use Rattle.sync_model.specs.Sides.{States, Side, state_at, after_task, task_notes}
 use Rattle.sync_model.specs.Clients.{new_client, side_of}
 use Rattle.sync_model.specs.Changes.{edit_hash, follows}
 use Rattle.sync_model.specs.Fates.{fate_of}
-use Rattle.sync_model.specs.Worlds.{World, opening, client_at, outcome_at, stepped, run, world_of}
+use Rattle.sync_model.specs.Worlds.{World, opening, outcome_at, stepped, run, world_of}
 use Rattle.sync_model.specs.Laws.{last_outcome}
-use Rattle.sync_model.specs.FateFacts.{Saying, IsSaidOfClient, IsSaidOnTheWay, IsNumbered, AreNumbered, side_at, NumberFacts}
+use Rattle.sync_model.specs.FateFacts.{IsSaidOfClient, IsSaidOnTheWay, IsNumbered, AreNumbered, side_at, NumberFacts}
 use Rattle.sync_model.proofs.Longer.{all_then}
 use Rattle.sync_model.proofs.KnownWorlds.{opening_client}
 use Rattle.sync_model.proofs.FateKeys.{each_put, numbered_at, fate_in, AreNotedWithin, task_numbered}
 use Rattle.sync_model.proofs.FateWays.{way_weaker, new_client-said}
 use Rattle.sync_model.proofs.FateWorlds.{stepped-said}
-use Rattle.sync_model.proofs.FateSteps.{IsQuiet, IsEditing, IsTurning, Makes}
+use Rattle.sync_model.proofs.FateSteps.{Makes}
 use Rattle.sync_model.proofs.FateSettlements.{IsStep, stepped_step}
 
 -- notes within a number settle none above it
@@ -92,8 +91,11 @@ pub stepped_counted : (setting : Setting) (event : Event) (world : World) → Nu
 stepped_counted setting event world facts place kind =
     let step : IsStep setting event world (stepped setting event world) place kind
     = stepped_step (λ number kind edit value. edit ≤ (side_at world number kind).last_edit) setting event world facts.sent place kind
-    in (step, makes_counted setting event world (suc place) kind (side_at world (suc place) kind) (side_at (stepped setting event world) (suc place) kind)
-    step.noted (last_outcome (stepped setting event world)) (facts.keys place kind) step.makes)
+    in (
+      step,
+      makes_counted setting event world (suc place) kind (side_at world (suc place) kind) (side_at (stepped setting event world) (suc place) kind)
+          step.noted (last_outcome (stepped setting event world)) (facts.keys place kind) step.makes,
+    )
 
 all_grow : (setting : Setting) (event : Event) (world : World) → NumberFacts world → (number : ℕ) (kind : Kind)
     → (side_at world number kind).last_edit ≤ (side_at (stepped setting event world) number kind).last_edit

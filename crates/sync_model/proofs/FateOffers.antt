@@ -1,9 +1,7 @@
 -- What a side offers says of each edit what is said of the keys: so do the entries that are held.
-use Rattle.std.proofs.Common.{◌≡◌, ℕ, ◌-◌, ◌++◌, Bool, true, false, cond, List, [], ◌∷◌, length, Option, Some, None, refl, sym, subst, IfSome, nat_le, ◌||◌}
+use Rattle.std.proofs.Common.{◌≡◌, ℕ, ◌-◌, ◌++◌, Bool, true, false, cond, List, [], ◌∷◌, length, Option, Some, None, sym, subst, IfSome, nat_le, ◌||◌}
 use Rattle.std.specs.List.{AllByRecursion}
 use Rattle.client_tags.specs.declared.Kind.{Kind}
-use Rattle.sync_model.specs.declared.message.Content.{Content}
-use Rattle.sync_model.specs.declared.message.Entry.{Entry}
 use Rattle.sync_model.specs.declared.message.Offer.{Offer}
 use Rattle.sync_model.specs.declared.state.KeyState.{KeyState}
 use Rattle.sync_model.specs.KeyStates.{needs_seal}
@@ -11,7 +9,7 @@ use Rattle.sync_model.specs.Settings.{Setting}
 use Rattle.sync_model.specs.Sides.{States}
 use Rattle.sync_model.specs.Offers.{offer_for, placed, with_due, with_all_due, due_offers, with_reseal, with_reseals, reseal_offers, offers_of}
 use Rattle.sync_model.specs.Clients.{Client, side_of, wanted_name}
-use Rattle.sync_model.specs.Sending.{MAX_ENTRIES, lock_for, drawn_after, sealed, is_held_back, lacks_own_lock, offers_if_had, gathered}
+use Rattle.sync_model.specs.Sending.{MAX_ENTRIES, lock_for, drawn_after, sealed, is_held_back, lacks_own_lock, gathered}
 use Rattle.sync_model.specs.FateFacts.{Saying, IsSaidOfEntry}
 use Rattle.sync_model.proofs.TrueAcks.{all_append}
 use Rattle.sync_model.proofs.WantedWrites.{all_take}

@@ -1,12 +1,11 @@
 -- What a reply says: its updates are of different keys, and its acknowledgements are of what the client sent.
-use Rattle.std.proofs.Common.{◌≡◌, ℕ, zero, suc, ◌+◌, ◌-◌, ◌≤◌, Bool, true, false, cond, List, [], ◌∷◌, ◌++◌, length, take, Option, Some, None, refl, sym, ap, ◌∙◌, subst, eqb, arith, IfSome, ◌||◌, ◌&&◌, not}
+use Rattle.std.proofs.Common.{◌≡◌, ℕ, zero, suc, ◌+◌, ◌≤◌, Bool, true, false, cond, List, [], ◌∷◌, ◌++◌, length, take, Option, Some, None, refl, sym, ap, ◌∙◌, subst, eqb, arith, IfSome, ◌||◌, not}
 use Rattle.std.specs.List.{AllByRecursion, slice_get}
 use Rattle.std.proofs.lemmas.Bool.{eqb-true, and_parts}
 use Rattle.client_tags.specs.declared.Kind.{Kind}
 use Rattle.client_tags.specs.declared.Kind.TheVariants.{Nigori, Preference, Password}
-use Rattle.sync_values.specs.declared.value.Value.{Value}
 use Rattle.sync_model.specs.declared.event.EventOutcome.{EventOutcome}
-use Rattle.sync_model.specs.declared.event.EventOutcome.TheVariants.{Done, Requested, Delivered}
+use Rattle.sync_model.specs.declared.event.EventOutcome.TheVariants.{Requested, Delivered}
 use Rattle.sync_model.specs.declared.message.Ack.{Ack}
 use Rattle.sync_model.specs.declared.message.Answer.{Answer}
 use Rattle.sync_model.specs.declared.message.Answer.TheVariants.{Success, Conflict, Invalid, OverQuota}
@@ -18,7 +17,6 @@ use Rattle.sync_model.specs.declared.message.Key.{Key}
 use Rattle.sync_model.specs.declared.message.Marker.{Marker}
 use Rattle.sync_model.specs.declared.message.Reply.{Reply}
 use Rattle.sync_model.specs.declared.message.Request.{Request}
-use Rattle.sync_model.specs.declared.message.Task.{Task}
 use Rattle.sync_model.specs.declared.message.Update.{Update}
 use Rattle.sync_model.specs.declared.message.Updates.{Updates}
 use Rattle.sync_model.specs.declared.message.Verdict.{Verdict}
@@ -27,12 +25,11 @@ use Rattle.sync_model.specs.Values.{same_kind}
 use Rattle.sync_model.specs.History.{last_version}
 use Rattle.sync_model.specs.Servers.{mark_of, is_above, is_wanted, as_given, wanted_writes, MAX_UPDATES, verdict_on, is_foreign, NOT_MY_BIRTHDAY, reply_to}
 use Rattle.sync_model.specs.Clients.{Client, side_of}
-use Rattle.sync_model.specs.Receiving.{ack_of, ack_for, acks_of, letter_of, update_of, updates_in, batch_of, batch_letter, letter_in, side_told, is_other_store, is_fit, told, answer_effect}
+use Rattle.sync_model.specs.Receiving.{ack_of, ack_for, acks_of, letter_of, update_of, updates_in, batch_letter, letter_in, side_told, is_other_store, is_fit, told, answer_effect}
 use Rattle.sync_model.specs.Worlds.{outcome_at}
 use Rattle.sync_model.specs.Laws.{answer_in, Stores}
 use Rattle.sync_model.specs.FateFacts.{Saying, IsSaidOfEntry, IsSaidOfCall, HasNoUpdate, AreOfDistinctKeys, IsOfDistinctKeys, IsSentBy, IsSaidOfAck, IsSaidOfTask, IsSaidOfSide, IsSaidOfClient}
 use Rattle.sync_model.proofs.Writes.{same_kind-true}
-use Rattle.sync_model.proofs.Longer.{all_then}
 use Rattle.sync_model.proofs.TrueAcks.{all_append}
 use Rattle.sync_model.proofs.WantedWrites.{all_take, wanted_within}
 use Rattle.sync_model.proofs.FateWays.{alike-said, IsSaidOfEffect, done_said}
@@ -76,10 +73,11 @@ later_apart : (whole : List (Entry Content)) (bound version : ℕ) (write : Entr
     → AllByRecursion (IsLast whole) entries → AllByRecursion (λ entry. entry.version ≤ bound) entries
     → AllByRecursion (λ entry. write.key ≡ entry.key → ⊥) entries
 later_apart whole bound version write [] le is lasts within = tt
-later_apart whole bound version write (entry ∷ entries) le is lasts within =
-    ((λ same. let twice : last_version whole write.key ≡ last_version whole entry.key = ap (λ (key : Key). last_version whole key) same in
-    omega (arith, twice, is, lasts.0, within.0, le)),
-    later_apart whole bound version write entries le is lasts.1 within.1)
+later_apart whole bound version write (entry ∷ entries) le is lasts within = (
+  (λ same. let twice : last_version whole write.key ≡ last_version whole entry.key = ap (λ (key : Key). last_version whole key) same in
+      omega (arith, twice, is, lasts.0, within.0, le)),
+  later_apart whole bound version write entries le is lasts.1 within.1,
+)
 
 wanted_apart_by : (marks : List Marker) (whole older : List (Entry Content)) (write : Entry Content) (wanted : Bool)
     → is_wanted marks whole (length older + 1) write ≡ wanted → Apart (wanted_writes marks whole older)

@@ -35,7 +35,7 @@ fate_or : (first rest : Option Settlement)
 fate_or None rest = refl
 fate_or (Some settlement) rest = refl
 
-pub fate_of-more : (first rest : List Settlement) (client : ℕ) (kind : Kind) (edit : ℕ)
+fate_of-more : (first rest : List Settlement) (client : ℕ) (kind : Kind) (edit : ℕ)
     → fate_of (first ++ rest) client kind edit ≡ option_or (fate_of first client kind edit) (fate_of rest client kind edit)
 unfolding fate_of
 fate_of-more first rest client kind edit =
@@ -62,7 +62,7 @@ fate_of_notes author own (note ∷ notes) client kind edit =
     noted_step (eqb author client && same_kind own kind) (eqb note.number edit) (settlement_of author own note)
     (find (is_of_edit client kind edit) (map (settlement_of author own) notes)) (fate_in notes edit) (fate_of_notes author own notes client kind edit)
 
-pub option_or-none : (fate : Option Fate) → option_or fate None ≡ fate
+option_or-none : (fate : Option Fate) → option_or fate None ≡ fate
 option_or-none None = refl
 option_or-none (Some fate) = refl
 
@@ -101,8 +101,10 @@ quiet_step setting event world next place kind settlements clients = record {
   fates = λ edit. ap (λ (found : List Settlement). fate_of found (suc place) kind edit) settlements
       ∙ sym (option_or-none (fate_of world.settlements (suc place) kind edit));
   makes = inl record {
-    kept = (ap (λ (found : List Client). (side_of (client_at found (suc place)) kind).states) clients,
-      ap (λ (found : List Client). (side_of (client_at found (suc place)) kind).last_edit) clients);
+    kept = (
+      ap (λ (found : List Client). (side_of (client_at found (suc place)) kind).states) clients,
+      ap (λ (found : List Client). (side_of (client_at found (suc place)) kind).last_edit) clients,
+    );
     silent = λ edit. refl;
   };
 }

@@ -1,25 +1,22 @@
 -- Once an edit is made it stands, and nothing is on its way that has its number.
-use Rattle.std.proofs.Common.{◌≡◌, ℕ, zero, suc, ◌+◌, ◌-◌, ◌<◌, ◌≤◌, Bool, true, false, cond, List, [], ◌∷◌, slice_index_or, Option, Some, None, is_some, refl, sym, ap, ◌∙◌, subst, arith, le_refl, IfSome}
-use Rattle.std.proofs.lemmas.Bool.{false≢true, true≢false}
+use Rattle.std.proofs.Common.{◌≡◌, ℕ, suc, ◌+◌, ◌-◌, ◌≤◌, Bool, true, false, cond, List, Option, Some, None, is_some, refl, sym, ap, ◌∙◌, subst, arith, IfSome}
+use Rattle.std.proofs.lemmas.Bool.{true≢false}
 use Rattle.std.proofs.lemmas.Option.{none-some, same_Some}
 use Rattle.client_tags.specs.declared.Kind.{Kind}
 use Rattle.client_tags.specs.declared.Kind.TheVariants.{Nigori, Preference, Password}
-use Rattle.key_derivation.specs.declared.NigoriKey.{NigoriKey}
 use Rattle.sync_values.specs.declared.edit.Edit.{Edit as UserEdit}
 use Rattle.sync_values.specs.declared.edit.Edit.TheVariants.{SetNigori}
 use Rattle.sync_values.specs.declared.value.Value.{Value}
 use Rattle.sync_model.specs.declared.event.Event.{Event}
 use Rattle.sync_model.specs.declared.event.Event.TheVariants.{Edit, Cut, Turn, Gather, Post, Ask, Offer, Lose, Crash, Deliver, Answer, SetPass, GivePass}
-use Rattle.sync_model.specs.declared.event.EventOutcome.{EventOutcome}
 use Rattle.sync_model.specs.declared.event.EventOutcome.TheVariants.{Void}
-use Rattle.sync_model.specs.declared.fate.Fate.{Fate}
 use Rattle.sync_model.specs.declared.state.KeyState.{KeyState}
 use Rattle.sync_model.specs.Values.{same_kind}
 use Rattle.sync_model.specs.Edits.{edit_kind, edit_value}
 use Rattle.sync_model.specs.Settings.{Setting, with_key}
 use Rattle.sync_model.specs.KeyStates.{edited}
 use Rattle.sync_model.specs.Sides.{States, Side, state_at, with_state, side_edited}
-use Rattle.sync_model.specs.Clients.{Client, Effect, new_client, side_of, with_side, restarted}
+use Rattle.sync_model.specs.Clients.{Client, Effect, side_of, with_side}
 use Rattle.sync_model.specs.Changes.{edit_hash, edit_refusal, edit_taken, edit_effect, change_effect, cut_short, cut_effect, pass_value, set_pass_refusal, set_pass_effect}
 use Rattle.sync_model.specs.Fates.{fate_of}
 use Rattle.sync_model.specs.Report.{is_void}
@@ -31,7 +28,7 @@ use Rattle.sync_model.proofs.KeyLookups.{state_at-with_state}
 use Rattle.sync_model.proofs.FateKeys.{each_put}
 use Rattle.sync_model.proofs.FateWays.{way_weaker}
 use Rattle.sync_model.proofs.FateMakes.{restarted_kept}
-use Rattle.sync_model.proofs.FateSettlements.{IsStep, last_is, put_same, before}
+use Rattle.sync_model.proofs.FateSettlements.{IsStep, last_is, put_same}
 use Rattle.sync_model.proofs.FateNumbers.{IsCounted, stepped_counted, stepped-sent}
 use Rattle.sync_model.proofs.FateEdits.{or_given}
 
@@ -167,9 +164,9 @@ made_by_some setting (Answer delivery) world edit user makes = absurd (none-some
 made_by_some setting (GivePass number pass) world edit user makes = absurd (none-some edit makes)
 
 -- an edit stands on the side that it was made on
-edited_stands : (last number : ℕ) (hash : List ℕ) (value : Value) (states : States) → number ≡ last + 1
+made_stands : (last number : ℕ) (hash : List ℕ) (value : Value) (states : States) → number ≡ last + 1
     → AreNumbered last states → StandsOn number hash value (with_state states hash (edited (state_at states hash) value (last + 1)))
-edited_stands last number hash value states is within =
+made_stands last number hash value states is within =
     let put : state_at (with_state states hash (edited (state_at states hash) value (last + 1))) hash ≡ edited (state_at states hash) value (last + 1)
     = state_at-with_state states hash (edited (state_at states hash) value (last + 1))
     in record {
@@ -207,7 +204,7 @@ starts_unsettled setting event world place number edit facts is made = by (stepp
       lacks_fate = step.fates number ∙ or_given (fate_of world.settlements (suc place) (edit_kind edit) number) (step.noted number) None
           (facts.unsettled place (edit_kind edit) number (omega (arith, is))) (counted.settles number (omega (arith, is)));
       stands = subst (λ (states : States). StandsOn number (edit_hash setting edit) (edit_value edit) states) (sym made.states)
-          (edited_stands (side_at world (suc place) (edit_kind edit)).last_edit number (edit_hash setting edit) (edit_value edit)
+          (made_stands (side_at world (suc place) (edit_kind edit)).last_edit number (edit_hash setting edit) (edit_value edit)
           (side_at world (suc place) (edit_kind edit)).states is (facts.keys place (edit_kind edit)));
       sent = way_weaker (λ other kind found value. found ≤ (side_at world other kind).last_edit) (HasValueOf (suc place) (edit_kind edit) number (edit_value edit))
           (stepped setting event world) says (stepped-sent setting event world facts);

@@ -95,7 +95,7 @@ run-stays Q stays setting world (event ∷ events) is =
     run-stays Q stays setting (stepped setting event world) events (stepped-stays Q stays setting event world is)
 
 -- a run of some events and then of others
-pub run-append : (setting : Setting) (world : World) (before later : List Event) → run setting world (before ++ later) ≡ run setting (run setting world before) later
+run-append : (setting : Setting) (world : World) (before later : List Event) → run setting world (before ++ later) ≡ run setting (run setting world before) later
 unfolding run
 run-append setting world [] later = refl
 run-append setting world (event ∷ before) later = run-append setting (stepped setting event world) before later

@@ -1,38 +1,24 @@
 -- What an event makes of a client's keys of a type, and which edits it settles: nothing, an edit, or a turn.
-use Rattle.std.proofs.Common.{◌≡◌, ℕ, ◌+◌, ◌++◌, ◌⊎◌, Bool, true, false, cond, List, [], ◌∷◌, length, Option, Some, None, is_some, refl, sym, ap, ◌∙◌, subst, eqb, inl, inr, IfSome, ◌||◌, ◌&&◌, not}
-use Rattle.std.specs.Option.{option_or}
+use Rattle.std.proofs.Common.{◌≡◌, ℕ, ◌+◌, ◌⊎◌, Bool, true, false, cond, List, ◌∷◌, Option, Some, None, refl, sym, ap, ◌∙◌, subst, inl, inr, IfSome}
 use Rattle.client_tags.specs.declared.Kind.{Kind}
 use Rattle.client_tags.specs.declared.Kind.TheVariants.{Nigori, Preference, Password}
-use Rattle.key_derivation.specs.declared.NigoriKey.{NigoriKey}
 use Rattle.sync_values.specs.declared.edit.Edit.{Edit as UserEdit}
-use Rattle.sync_values.specs.declared.edit.Edit.TheVariants.{SetNigori}
-use Rattle.sync_values.specs.declared.value.Value.{Value}
-use Rattle.sync_model.specs.declared.conflict.Decision.{Decision}
 use Rattle.sync_model.specs.declared.event.Event.{Event}
-use Rattle.sync_model.specs.declared.event.Event.TheVariants.{Edit, Cut, Turn, Gather, Post, Ask, Offer, Lose, Crash, Deliver, Answer, SetPass, GivePass}
+use Rattle.sync_model.specs.declared.event.Event.TheVariants.{Turn}
 use Rattle.sync_model.specs.declared.event.EventOutcome.{EventOutcome}
-use Rattle.sync_model.specs.declared.event.EventOutcome.TheVariants.{Done, Requested}
 use Rattle.sync_model.specs.declared.fate.Fate.{Fate}
-use Rattle.sync_model.specs.declared.message.Batch.{Batch}
-use Rattle.sync_model.specs.declared.message.Reply.{Reply}
-use Rattle.sync_model.specs.declared.message.Request.{Request}
-use Rattle.sync_model.specs.declared.message.Content.{Content}
 use Rattle.sync_model.specs.declared.message.Task.{Task}
-use Rattle.sync_model.specs.declared.message.Task.TheVariants.{Batch as Updating, Acks}
 use Rattle.sync_model.specs.Values.{same_kind}
 use Rattle.sync_model.specs.Edits.{edit_kind, edit_value}
-use Rattle.sync_model.specs.Settings.{Setting, decided_by, with_key}
+use Rattle.sync_model.specs.Settings.{Setting, decided_by}
 use Rattle.sync_model.specs.KeyStates.{edited}
-use Rattle.sync_model.specs.Sides.{Side, state_at, with_state, side_edited, after_task, task_notes, mailed}
-use Rattle.sync_model.specs.Clients.{Client, Effect, side_of, with_side, restarted, plain_effect, wanted_name, opens, bag_with, batch_mailed}
-use Rattle.sync_model.specs.Changes.{edit_hash, follows, edit_refusal, edit_taken, edit_effect, change_effect, cut_short, cut_effect, crash_effect, pass_value, set_pass_refusal, set_pass_effect, give_pass_refusal, give_pass_effect}
-use Rattle.sync_model.specs.Sending.{holding, gathered, gathering, is_gather_void, gather_effect, ask_of, is_busy, ask_effect, commit_of, offer_effect, lose_effect}
-use Rattle.sync_model.specs.Receiving.{posted, post_effect_at, post_effect, turn_effect_at, turn_effect, told, is_other_store, is_fit, answered_with, answer_effect}
+use Rattle.sync_model.specs.Sides.{Side, state_at, with_state, after_task, task_notes}
+use Rattle.sync_model.specs.Clients.{Client, Effect, side_of, with_side, plain_effect}
+use Rattle.sync_model.specs.Changes.{edit_hash, follows}
 use Rattle.sync_model.specs.Report.{is_void}
-use Rattle.sync_model.specs.Worlds.{World, client_at, pass_at}
+use Rattle.sync_model.specs.Worlds.{World}
 use Rattle.sync_model.specs.Laws.{user_of, edit_by}
 use Rattle.sync_model.proofs.Writes.{same_kind-refl}
-use Rattle.sync_model.proofs.KnownClients.{with_side_keeps}
 use Rattle.sync_model.proofs.FateKeys.{fate_in}
 
 -- a side has the same keys and the same last number
@@ -83,7 +69,7 @@ EffectMakes setting event world number client effect = IfSome effect (λ made. (
 abbrev nothing : Option Fate
 nothing = None
 
-pub none_noted : (same : Bool) → cond same nothing nothing ≡ nothing
+none_noted : (same : Bool) → cond same nothing nothing ≡ nothing
 none_noted true = refl
 none_noted false = refl
 
@@ -97,7 +83,7 @@ plain_makes setting event world number client new outcome kept kind =
     inl record { kept = kept kind; silent = λ edit. none_noted (same_kind Nigori kind) }
 
 -- a client with another side of a type
-pub side_put : (client : Client) (kind other : Kind) (side : Side)
+side_put : (client : Client) (kind other : Kind) (side : Side)
     → ((kind ≡ other) × (side_of (with_side client kind side) other ≡ side))
     ⊎ ((same_kind kind other ≡ false) × (side_of (with_side client kind side) other ≡ side_of client other))
 side_put client Nigori Nigori side = inl (refl, refl)
@@ -159,7 +145,9 @@ makes_by setting event world number client kind side effect is of_kind makes oth
         put.0 (here (noted_by effect kind) noted_here (side_of effect.client kind)
         (ap (λ (found : Client). side_of found kind) is ∙ subst (λ (found : Kind). side_of (with_side client kind side) found ≡ side) (sym put.0) put.1) makes)
     by (inr put) = inl record {
-      kept = (ap (λ (found : Client). (side_of found other).states) is ∙ ap (λ (found : Side). found.states) put.1,
-        ap (λ (found : Client). (side_of found other).last_edit) is ∙ ap (λ (found : Side). found.last_edit) put.1);
+      kept = (
+        ap (λ (found : Client). (side_of found other).states) is ∙ ap (λ (found : Side). found.states) put.1,
+        ap (λ (found : Client). (side_of found other).last_edit) is ∙ ap (λ (found : Side). found.last_edit) put.1,
+      );
       silent = λ edit. noted_there edit put.0;
     }

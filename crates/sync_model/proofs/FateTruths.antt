@@ -1,5 +1,5 @@
 -- What settles an edit is as the fate says: a later edit, a write of its key by a row of the table, or one of its own.
-use Rattle.std.proofs.Common.{◌≡◌, ℕ, suc, ◌+◌, ◌<◌, ◌≤◌, ◌++◌, ◌⊎◌, List, [], ◌∷◌, Option, Some, None, refl, sym, ap, ◌∙◌, subst, arith, inl, inr}
+use Rattle.std.proofs.Common.{◌≡◌, ℕ, suc, ◌+◌, ◌≤◌, ◌++◌, ◌⊎◌, List, ◌∷◌, Option, Some, None, refl, sym, ap, ◌∙◌, subst, arith, inl, inr}
 use Rattle.client_tags.specs.declared.Kind.{Kind}
 use Rattle.sync_values.specs.declared.edit.Edit.{Edit}
 use Rattle.sync_values.specs.declared.value.Value.{Value}
@@ -7,25 +7,20 @@ use Rattle.sync_model.specs.declared.conflict.Choice.{Choice}
 use Rattle.sync_model.specs.declared.conflict.Choice.TheVariants.{Same, Remote, Merged as MergedInto}
 use Rattle.sync_model.specs.declared.event.Event.{Event}
 use Rattle.sync_model.specs.declared.event.Event.TheVariants.{Turn}
-use Rattle.sync_model.specs.declared.event.EventOutcome.{EventOutcome}
 use Rattle.sync_model.specs.declared.event.Schedule.{Schedule}
 use Rattle.sync_model.specs.declared.fate.Fate.{Fate}
-use Rattle.sync_model.specs.declared.fate.Fate.TheVariants.{Followed, Committed, Matched, Taken, Merged}
-use Rattle.sync_model.specs.declared.message.Ack.{Ack}
+use Rattle.sync_model.specs.declared.fate.Fate.TheVariants.{Matched, Taken, Merged}
 use Rattle.sync_model.specs.declared.message.Content.{Content}
 use Rattle.sync_model.specs.declared.message.Entry.{Entry}
-use Rattle.sync_model.specs.declared.message.Key.{Key}
-use Rattle.sync_model.specs.declared.message.Update.{Update}
 use Rattle.sync_model.specs.declared.state.KeyState.{KeyState}
 use Rattle.sync_model.specs.Edits.{edit_kind, edit_value}
 use Rattle.sync_model.specs.Settings.{Setting, decided_by}
 use Rattle.sync_model.specs.Conflicts.{choice_of}
 use Rattle.sync_model.specs.KeyStates.{resolution_of}
-use Rattle.sync_model.specs.Sides.{Side, state_at}
 use Rattle.sync_model.specs.Changes.{edit_hash}
 use Rattle.sync_model.specs.Fates.{fate_of}
-use Rattle.sync_model.specs.Worlds.{World, stepped, world_of}
-use Rattle.sync_model.specs.Laws.{world_before, last_outcome, IsMade, edit_key, state_of_edit, IsFollowed, IsOfKey, IsOfEdit, IsAuthoredBy, IsTaking, IsMerging, IsSettledByRow, IsTrueFate}
+use Rattle.sync_model.specs.Worlds.{stepped, world_of}
+use Rattle.sync_model.specs.Laws.{world_before, last_outcome, edit_key, state_of_edit, IsFollowed, IsOfEdit, IsAuthoredBy, IsTaking, IsMerging, IsSettledByRow, IsTrueFate}
 use Rattle.sync_model.specs.Facts.{key_of, IsWriteOf, IsTrueUpdate, IsTrueAck}
 use Rattle.sync_model.specs.FateFacts.{IsSentBy, IsSaidOfAck, StandsOn, HasValueOf, side_at}
 use Rattle.sync_model.proofs.Writes.{IsWriteOf-longer}
@@ -33,7 +28,7 @@ use Rattle.sync_model.proofs.FateUpdates.{IsSettledBy}
 use Rattle.sync_model.proofs.FateAcks.{IsAckedBy}
 use Rattle.sync_model.proofs.FateWays.{IsSentBy-later}
 use Rattle.sync_model.proofs.FateSteps.{IsEditing}
-use Rattle.sync_model.proofs.FateStays.{Stays, stays_to_end}
+use Rattle.sync_model.proofs.FateStays.{stays_to_end}
 use Rattle.sync_model.proofs.FateValues.{same_row, fate_cases}
 
 -- a later edit of the same key on the same client

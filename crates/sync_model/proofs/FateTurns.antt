@@ -1,5 +1,5 @@
 -- A turn leaves an edit that stands, or settles it as its fate says; so does each event.
-use Rattle.std.proofs.Common.{◌≡◌, ℕ, suc, ◌+◌, ◌<◌, ◌≤◌, ◌++◌, ◌⊎◌, Bool, true, false, List, [], ◌∷◌, Option, Some, None, refl, sym, ap, ◌∙◌, subst, inl, inr}
+use Rattle.std.proofs.Common.{◌≡◌, ℕ, suc, ◌<◌, ◌++◌, ◌⊎◌, List, ◌∷◌, Some, sym, ◌∙◌, subst, inl, inr}
 use Rattle.std.specs.List.{AllByRecursion}
 use Rattle.client_tags.specs.declared.Kind.{Kind}
 use Rattle.sync_values.specs.declared.edit.Edit.{Edit}
@@ -10,7 +10,6 @@ use Rattle.sync_model.specs.declared.event.Event.TheVariants.{Turn}
 use Rattle.sync_model.specs.declared.event.EventOutcome.{EventOutcome}
 use Rattle.sync_model.specs.declared.event.Schedule.{Schedule}
 use Rattle.sync_model.specs.declared.fate.Fate.{Fate}
-use Rattle.sync_model.specs.declared.message.Ack.{Ack}
 use Rattle.sync_model.specs.declared.message.Content.{Content}
 use Rattle.sync_model.specs.declared.message.Entry.{Entry}
 use Rattle.sync_model.specs.declared.message.Task.{Task}
@@ -18,17 +17,16 @@ use Rattle.sync_model.specs.declared.message.Task.TheVariants.{Batch as Updating
 use Rattle.sync_model.specs.Edits.{edit_kind, edit_value}
 use Rattle.sync_model.specs.Settings.{Setting, decided_by}
 use Rattle.sync_model.specs.Sides.{States, Side, after_task, task_notes}
-use Rattle.sync_model.specs.Clients.{side_of}
 use Rattle.sync_model.specs.Changes.{edit_hash}
 use Rattle.sync_model.specs.Fates.{fate_of}
-use Rattle.sync_model.specs.Worlds.{World, client_at, stepped}
+use Rattle.sync_model.specs.Worlds.{World, stepped}
 use Rattle.sync_model.specs.Laws.{world_before, last_outcome, IsTrueFate}
 use Rattle.sync_model.specs.Facts.{IsTrueUpdate, IsTrueAck, IsTrueTask, AreChained, WorldFacts}
 use Rattle.sync_model.specs.FateFacts.{Saying, IsSaidOfAck, IsSaidOfTask, AreNumbered, side_at, NumberFacts, StandsOn, HasValueOf, IsUnsettled}
 use Rattle.sync_model.proofs.FateKeys.{fate_in}
 use Rattle.sync_model.proofs.FateUpdates.{StillStands, IsSettledBy, updates_walk}
 use Rattle.sync_model.proofs.FateAcks.{IsAckedBy, acks_walk}
-use Rattle.sync_model.proofs.FateSteps.{IsQuiet, IsEditing, IsTurning, Makes}
+use Rattle.sync_model.proofs.FateSteps.{IsTurning, Makes}
 use Rattle.sync_model.proofs.FateSettlements.{IsStep}
 use Rattle.sync_model.proofs.FateNumbers.{IsCounted, stepped_counted}
 use Rattle.sync_model.proofs.FateTruths.{acked_true, met_true}

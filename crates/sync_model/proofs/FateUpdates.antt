@@ -1,5 +1,5 @@
 -- An edit that stands still does after the updates of a batch, or one of them settles it by a row.
-use Rattle.std.proofs.Common.{◌≡◌, ℕ, ◌<◌, ◌⊎◌, Bool, true, false, cond, List, [], ◌∷◌, ◌++◌, Option, Some, None, is_some, refl, sym, ap, ◌∙◌, subst, eqb, arith, inl, inr, bytes_eq, not, ◌||◌, IfSome}
+use Rattle.std.proofs.Common.{◌≡◌, ℕ, ◌<◌, ◌⊎◌, Bool, true, false, cond, List, [], ◌∷◌, ◌++◌, Option, Some, None, is_some, refl, sym, ap, ◌∙◌, subst, arith, inl, inr, bytes_eq, not, ◌||◌, IfSome}
 use Rattle.std.specs.List.{AllByRecursion}
 use Rattle.std.specs.Option.{option_or}
 use Rattle.std.proofs.lemmas.Bool.{false≢true, eq-eqb, ne_eqb, cond-true, cond-false}
@@ -15,19 +15,19 @@ use Rattle.sync_model.specs.declared.fate.Fate.TheVariants.{Matched, Taken, Merg
 use Rattle.sync_model.specs.declared.fate.Note.{Note}
 use Rattle.sync_model.specs.declared.message.Update.{Update}
 use Rattle.sync_model.specs.declared.state.KeyState.{KeyState}
-use Rattle.sync_model.specs.KeyStates.{new_state, is_old, settled, accepted, rebased, resolution_of, updated, fate_by, fate_of_update}
+use Rattle.sync_model.specs.KeyStates.{is_old, settled, accepted, rebased, resolution_of, updated, fate_by, fate_of_update}
 use Rattle.sync_model.specs.Sides.{States, state_at, with_state, after_update, after_updates, note_with, update_notes}
 use Rattle.sync_model.specs.FateFacts.{IsNumbered, AreNumbered, HasNoUpdate, AreOfDistinctKeys, IsOnlyOf, StandsOn}
 use Rattle.sync_model.proofs.KeyLookups.{with_state-IsSetAt, state_at-with_state}
 use Rattle.sync_model.proofs.FateKeys.{Each, each_at, each_put, numbered_at, fate_in, fate_in-append, after_update_numbered}
 
 -- no note without a fate
-pub no_note : (due : Option ℕ) (edit : ℕ) → fate_in (note_with due None) edit ≡ None
+no_note : (due : Option ℕ) (edit : ℕ) → fate_in (note_with due None) edit ≡ None
 no_note None edit = refl
 no_note (Some number) edit = refl
 
 -- the note of an edit that is due
-pub one_note : (due : Option ℕ) (edit : ℕ) (fate : Fate) → due ≡ Some edit → fate_in (note_with due (Some fate)) edit ≡ Some fate
+one_note : (due : Option ℕ) (edit : ℕ) (fate : Fate) → due ≡ Some edit → fate_in (note_with due (Some fate)) edit ≡ Some fate
 one_note None edit fate is = absurd (none-some edit is)
 one_note (Some number) edit fate is = cond-true _ _ _ (eq-eqb number edit (same_Some number edit is))
 
@@ -164,7 +164,7 @@ rebased_stands edit value states update stands =
           (λ is. (refl, stands.due, stands.own)) stands.alone;
     }
 
-here_by : (edit : ℕ) (value : Value) (states : States) (update : Update) (resolution : Resolution) (choice : Choice) (old due : Bool)
+update_here_by : (edit : ℕ) (value : Value) (states : States) (update : Update) (resolution : Resolution) (choice : Choice) (old due : Bool)
     → is_some (state_at states update.hash).due ≡ due → StandsOn edit update.hash value states
     → StillStands edit update.hash value
     (cond old states (with_state states update.hash (cond old (state_at states update.hash)
@@ -172,26 +172,26 @@ here_by : (edit : ℕ) (value : Value) (states : States) (update : Update) (reso
     (note_with (state_at states update.hash).due (cond (old || not due) None (fate_by update.version resolution choice)))
     ⊎ ((fate : Fate) × (fate_in (note_with (state_at states update.hash).due (cond (old || not due) None (fate_by update.version resolution choice))) edit ≡ Some fate)
     × (fate_by update.version resolution choice ≡ Some fate))
-here_by edit value states update resolution choice true due is stands = inl (stands, no_note (state_at states update.hash).due edit)
-here_by edit value states update resolution Same false true is stands =
+update_here_by edit value states update resolution choice true due is stands = inl (stands, no_note (state_at states update.hash).due edit)
+update_here_by edit value states update resolution Same false true is stands =
     inr (Matched update.version, one_note (state_at states update.hash).due edit (Matched update.version) stands.due, refl)
-here_by edit value states update resolution Remote false true is stands =
+update_here_by edit value states update resolution Remote false true is stands =
     inr (Taken update.version resolution.row, one_note (state_at states update.hash).due edit (Taken update.version resolution.row) stands.due, refl)
-here_by edit value states update resolution Local false true is stands =
+update_here_by edit value states update resolution Local false true is stands =
     inl (rebased_stands edit value states update stands, no_note (state_at states update.hash).due edit)
-here_by edit value states update resolution (MergedInto merged) false true is stands =
+update_here_by edit value states update resolution (MergedInto merged) false true is stands =
     inr (Merged update.version resolution.row, one_note (state_at states update.hash).due edit (Merged update.version resolution.row) stands.due, refl)
-here_by edit value states update resolution choice false false is stands =
+update_here_by edit value states update resolution choice false false is stands =
     absurd (false≢true (sym is ∙ ap (λ (due : Option ℕ). is_some due) stands.due))
 
-here : (decided : Value → Value → Decision) (edit : ℕ) (value : Value) (states : States) (update : Update) → StandsOn edit update.hash value states
+update_here : (decided : Value → Value → Decision) (edit : ℕ) (value : Value) (states : States) (update : Update) → StandsOn edit update.hash value states
     → StillStands edit update.hash value (after_update decided states update)
     (note_with (state_at states update.hash).due (fate_of_update decided (state_at states update.hash) update))
     ⊎ ((fate : Fate) × (fate_in (note_with (state_at states update.hash).due (fate_of_update decided (state_at states update.hash) update)) edit ≡ Some fate)
     × IsMet decided (state_at states update.hash) update fate)
 unfolding after_update updated fate_of_update
-here decided edit value states update stands =
-    here_by edit value states update (resolution_of decided (state_at states update.hash) update)
+update_here decided edit value states update stands =
+    update_here_by edit value states update (resolution_of decided (state_at states update.hash) update)
     (resolution_of decided (state_at states update.hash) update).choice (is_old (state_at states update.hash) update)
     (is_some (state_at states update.hash).due) refl stands
 
@@ -215,12 +215,16 @@ unfolding after_updates update_notes
 walk_other P decided edit last hash value states update updates some differs numbered stands (inl still) =
     inl (still.0, none_first _ _ edit None (other_update_note decided edit last hash value states update some differs numbered stands) still.1)
 walk_other P decided edit last hash value states update updates some differs numbered stands (inr met) =
-    inr (met.0, none_first _ _ edit (Some met.0) (other_update_note decided edit last hash value states update some differs numbered stands) met.1, record {
-      update = met.2.update;
-      holds = met.2.holds;
-      same = met.2.same;
-      met = subst (λ (state : KeyState). IsMet decided state met.2.update met.0) (another_update_same decided states update hash differs) met.2.met;
-    })
+    inr (
+      met.0,
+      none_first _ _ edit (Some met.0) (other_update_note decided edit last hash value states update some differs numbered stands) met.1,
+      record {
+        update = met.2.update;
+        holds = met.2.holds;
+        same = met.2.same;
+        met = subst (λ (state : KeyState). IsMet decided state met.2.update met.0) (another_update_same decided states update hash differs) met.2.met;
+      },
+    )
 
 -- the first of some updates is of the edit's key
 walk_here : (P : Update → Type 0) (decided : Value → Value → Decision) (edit last : ℕ) (value : Value) (states : States) (update : Update) (updates : List Update)
@@ -246,7 +250,7 @@ walk_by P decided edit last hash value states update updates true is some holds 
     let same : update.hash ≡ hash = (bytes_eq-Decides update.hash hash).0 is
     in subst (λ (key : List ℕ). AfterUpdates P decided edit key value states (update ∷ updates)) same
     (walk_here P decided edit last value states update updates some holds none numbered
-    (here decided edit value states update (subst (λ (key : List ℕ). StandsOn edit key value states) (sym same) stands)))
+    (update_here decided edit value states update (subst (λ (key : List ℕ). StandsOn edit key value states) (sym same) stands)))
 walk_by P decided edit last hash value states update updates false is some holds none numbered stands rest =
     walk_other P decided edit last hash value states update updates some (differs is) numbered stands (rest (differs is))
   where

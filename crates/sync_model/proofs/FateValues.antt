@@ -1,7 +1,6 @@
 -- Values that a test finds one are equal; and what a row of the conflict table does where it finds them so.
-use Rattle.std.proofs.Common.{◌≡◌, ℕ, ◌⊎◌, Bool, true, false, cond, List, Option, Some, None, refl, sym, ap, ◌∙◌, inl, inr, bytes_eq, ◌&&◌, not}
+use Rattle.std.proofs.Common.{◌≡◌, ℕ, ◌⊎◌, Bool, true, false, cond, List, Some, refl, sym, ap, ◌∙◌, inl, inr, bytes_eq, ◌&&◌, not}
 use Rattle.std.specs.Ordering.{int_eq}
-use Rattle.std.specs.Bool.{Decides}
 use lib.Pointwise.{pointwise}
 use Rattle.std.proofs.lemmas.Bool.{and_parts, and_from, false≢true}
 use Rattle.std.proofs.lemmas.Bool.Decides.{Decides-int_eq}
@@ -20,7 +19,6 @@ use Rattle.sync_model.specs.declared.conflict.Choice.TheVariants.{Same, Remote, 
 use Rattle.sync_model.specs.declared.conflict.Decision.{Decision}
 use Rattle.sync_model.specs.declared.conflict.Decision.TheVariants.{Remote as TakeRemote, Local as KeepLocal, Merged as Merge}
 use Rattle.sync_model.specs.declared.conflict.Resolution.{Resolution}
-use Rattle.sync_model.specs.declared.conflict.Row.{Row}
 use Rattle.sync_model.specs.declared.conflict.Row.TheVariants.{C1, C2, C3, C4, C5, C6}
 use Rattle.sync_model.specs.declared.fate.Fate.{Fate}
 use Rattle.sync_model.specs.declared.fate.Fate.TheVariants.{Matched, Taken, Merged}
@@ -58,7 +56,7 @@ same_pass_kind-true Vault Keystore is = absurd (false≢true is)
 same_pass_kind-true Vault Frozen is = absurd (false≢true is)
 same_pass_kind-true Vault Custom is = absurd (false≢true is)
 
-pub same_preference-true : (a b : Pref) → same_preference a b ≡ true → a ≡ b
+same_preference-true : (a b : Pref) → same_preference a b ≡ true → a ≡ b
 same_preference-true a b is =
     let parts : (bytes_eq a.name b.name ≡ true) × (bytes_eq a.value b.value ≡ true) = and_parts _ _ is
     in ap (λ (name : List ℕ). record a { name = name }) (bytes_same a.name b.name parts.0)
@@ -77,8 +75,10 @@ same_nigori_key-refl a =
     and_from _ _ (and_from _ _ ((bytes_eq-Decides a.user a.user).1 refl) ((bytes_eq-Decides a.enc a.enc).1 refl)) ((bytes_eq-Decides a.mac a.mac).1 refl)
 
 keys_same : (a b : List NigoriKey) → pointwise same_nigori_key a b ≡ true → a ≡ b
-keys_same a b is = (slice_eq-Decides (λ (a b : NigoriKey). (same_nigori_key-true a b,
-    λ same. ap (λ (other : NigoriKey). same_nigori_key a other) (sym same) ∙ same_nigori_key-refl a)) a b (pointwise same_nigori_key a b) refl).0 is
+keys_same a b is = (slice_eq-Decides (λ (a b : NigoriKey). (
+  same_nigori_key-true a b,
+  λ same. ap (λ (other : NigoriKey). same_nigori_key a other) (sym same) ∙ same_nigori_key-refl a,
+)) a b (pointwise same_nigori_key a b) refl).0 is
 
 same_nigori-true : (a b : NigoriValue) → same_nigori a b ≡ true → a ≡ b
 same_nigori-true a b is =
@@ -109,7 +109,7 @@ same_login-true a b is =
     ∙ ap (λ x. record b { created = x }) ((Decides-int_eq a.created b.created).0 g.1)
 
 -- two values that are one are equal
-pub same_value-true : (a b : Value) → same_value a b ≡ true → a ≡ b
+same_value-true : (a b : Value) → same_value a b ≡ true → a ≡ b
 unfolding same_value
 same_value-true Absent Absent is = refl
 same_value-true (Setting_value a) (Setting_value b) is = ap Setting_value (same_preference-true a b is)

@@ -1,5 +1,5 @@
 -- What is said of all that is on its way stays so under a further outcome, and as letters are posted and applied.
-use Rattle.std.proofs.Common.{◌≡◌, ℕ, suc, ◌+◌, ◌<◌, ◌≤◌, Bool, true, false, cond, List, [], ◌∷◌, ◌++◌, length, Option, Some, None, refl, sym, subst, ◌∙◌, eqb, arith, IfSome}
+use Rattle.std.proofs.Common.{◌≡◌, ℕ, suc, ◌+◌, ◌<◌, Bool, true, false, cond, List, [], ◌∷◌, ◌++◌, length, Option, Some, None, refl, sym, subst, ◌∙◌, eqb, arith, IfSome}
 use Rattle.std.specs.List.{AllByRecursion}
 use Rattle.std.proofs.lemmas.Bool.{eqb-true, ne_eqb, cond-false}
 use Rattle.std.proofs.lemmas.Option.{IfSome_then}
@@ -18,7 +18,7 @@ use Rattle.sync_model.specs.declared.message.Entry.{Entry}
 use Rattle.sync_model.specs.declared.message.Request.{Request}
 use Rattle.sync_model.specs.declared.message.Task.{Task}
 use Rattle.sync_model.specs.declared.message.Task.TheVariants.{Batch as Updating, Acks}
-use Rattle.sync_model.specs.Sides.{Side, new_side, restarted_side, after_task, mailed}
+use Rattle.sync_model.specs.Sides.{Side, after_task, mailed}
 use Rattle.sync_model.specs.Clients.{Client, Effect, new_client, side_of, with_side, restarted, plain_effect}
 use Rattle.sync_model.specs.Worlds.{World, outcome_at, client_at}
 use Rattle.sync_model.specs.Laws.{Stores}

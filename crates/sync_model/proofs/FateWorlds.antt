@@ -1,5 +1,5 @@
 -- What is said of all that is on its way still is after each event, where it is said of each key.
-use Rattle.std.proofs.Common.{◌≡◌, ℕ, zero, suc, ◌+◌, ◌-◌, Bool, true, false, cond, List, [], ◌∷◌, length, slice_index_or, Option, Some, None, refl, sym, ap, ◌∙◌, subst, eqb, arith, IfSome}
+use Rattle.std.proofs.Common.{◌≡◌, ℕ, zero, suc, ◌-◌, Bool, true, false, cond, List, [], ◌∷◌, slice_index_or, Option, Some, None, refl, sym, ap, ◌∙◌, subst, arith, IfSome}
 use Rattle.std.proofs.lemmas.Bool.{eqb-true, false≢true}
 use Rattle.client_tags.specs.declared.Kind.{Kind}
 use Rattle.sync_model.specs.declared.event.Event.{Event}
@@ -10,8 +10,8 @@ use Rattle.sync_model.specs.declared.message.Content.{Content}
 use Rattle.sync_model.specs.declared.message.Reply.{Reply}
 use Rattle.sync_model.specs.declared.message.Request.{Request}
 use Rattle.sync_model.specs.Settings.{Setting}
-use Rattle.sync_model.specs.Servers.{reply_to, history_served}
-use Rattle.sync_model.specs.Clients.{Client, Effect, new_client, side_of}
+use Rattle.sync_model.specs.Servers.{reply_to}
+use Rattle.sync_model.specs.Clients.{Client, Effect, new_client}
 use Rattle.sync_model.specs.Receiving.{answer_effect}
 use Rattle.sync_model.specs.Worlds.{World, client_at, with_client_at, outcome_at, affected, acted, STORE_BIRTHDAY, is_invalid_entry, delivered, is_awaited, replied, answered, pass_at, stepped}
 use Rattle.sync_model.specs.FateFacts.{Saying, IsSaidOfCall, IsOfDistinctKeys, IsSaidOfClient, IsSaidOfOutcome, IsSaidOnTheWay, side_at}
@@ -36,7 +36,7 @@ put_client_keeps P (first ∷ clients) (suc place) client new here all zero = al
 put_client_keeps P (first ∷ clients) (suc place) client new here all (suc other) =
     put_client_keeps (λ at. P (suc at)) clients place client (λ at. new (suc at)) here (λ at. all (suc at)) other
 
-pub set_client_at : (P : ℕ → Client → Type 0) (clients : List Client) (place : ℕ) (client : Client)
+set_client_at : (P : ℕ → Client → Type 0) (clients : List Client) (place : ℕ) (client : Client)
     → ((other : ℕ) → P other new_client) → P place client → ((other : ℕ) → P other (client_at clients (suc other)))
     → (other : ℕ) → P other (client_at (with_client_at clients (suc place - 1) client) (suc other))
 set_client_at P clients place client new here all other =

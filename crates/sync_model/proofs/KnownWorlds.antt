@@ -57,7 +57,7 @@ reply_to-true is_invalid birthday history request within kind =
     reply_by is_invalid history kind request.call (is_foreign birthday request.birthday) (within kind)
 
 -- what holds of each client still does where one of them is another one of which it holds
-pub set_client_keeps : (P : Client → Type 0) (clients : List Client) (place : ℕ) (client : Client) → P new_client → P client
+set_client_keeps : (P : Client → Type 0) (clients : List Client) (place : ℕ) (client : Client) → P new_client → P client
     → ((other : ℕ) → P (slice_index_or clients other new_client)) → (other : ℕ) → P (slice_index_or (with_client_at clients place client) other new_client)
 set_client_keeps P [] zero client new here all zero = here
 set_client_keeps P [] zero client new here all (suc other) = new
