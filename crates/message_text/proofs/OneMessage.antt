@@ -1,9 +1,6 @@
 -- Bytes say one message of a direction at most.
-use Rattle.std.proofs.Common.{◌≡◌, ℕ, List, sym, ap, ◌∙◌}
-use Rattle.std.specs.Prelude.{Result}
-use Rattle.message_fields.specs.declared.fault.MessageFault.{MessageFault}
+use Rattle.std.proofs.Common.{sym, ap, ◌∙◌}
 use Rattle.sync_messages.specs.Laws.{SayOneRequest, SayOneReply}
-use Rattle.message_text.specs.declared.message.Direction.{Direction}
 use Rattle.message_text.specs.declared.message.Direction.TheVariants.{ToServer, FromServer}
 use Rattle.message_text.specs.Messages.{said_to, said_from}
 use Rattle.message_text.specs.Laws.{SayOneMessage}

@@ -1,7 +1,7 @@
 -- Bytes say one message at most.
 use Rattle.std.specs.Prelude.{Result}
 use Rattle.std.proofs.Common.{◌≡◌, ℕ, List, [], ◌∷◌, Option, None, Some, refl, map, sym, ap, subst, ◌∙◌}
-use Rattle.std.specs.List.{AllZip, filter_map, flat_map}
+use Rattle.std.specs.List.{filter_map}
 use Rattle.message_fields.specs.declared.field.Part.{Part}
 use Rattle.message_fields.specs.declared.field.Known.{Known}
 use Rattle.message_fields.specs.declared.message.Message.{Message}
@@ -30,11 +30,11 @@ use Rattle.sync_messages.specs.declared.reply.ReplyKind.{ReplyKind}
 use Rattle.sync_messages.specs.declared.reply.ReplyKind.TheVariants as reply_kinds
 use Rattle.sync_messages.specs.declared.request.RequestKind.{RequestKind}
 use Rattle.sync_messages.specs.declared.request.RequestKind.TheVariants as request_kinds
-use Rattle.sync_messages.specs.Entities.{entity_fields, AreEntityFields, AreEntities, entity_fault, entities_fault, entity_of, AreEntitiesIn, SaysEntity}
+use Rattle.sync_messages.specs.Entities.{entity_fields, AreEntityFields, AreEntities, entity_fault, entities_fault, entity_of, AreEntitiesIn}
 use Rattle.sync_messages.specs.Markers.{marker_fields, markers_fault, marker_of, AreMarkersIn}
 use Rattle.sync_messages.specs.Answers.{answer_fields, answers_fault, answer_of, AreAnswersIn}
-use Rattle.sync_messages.specs.Requests.{to_fields, commit_fields, get_updates_fields, named, IsCommit, IsGetUpdates, IsRequest, to_fault, SaysTo}
-use Rattle.sync_messages.specs.Replies.{from_fields, committed_fields, updates_fields, reply_kind, code_fault, code_of, code_or_zero, IsCommitted, remaining_fault, AreUpdates, IsReply, from_fault, SaysFrom}
+use Rattle.sync_messages.specs.Requests.{to_fields, commit_fields, get_updates_fields, named, IsCommit, IsGetUpdates, IsRequest, to_fault}
+use Rattle.sync_messages.specs.Replies.{from_fields, committed_fields, updates_fields, reply_kind, IsCommitted, remaining_fault, AreUpdates, IsReply, from_fault}
 use Rattle.sync_messages.specs.Laws.{SayOneEntity, SayOneRequest, SayOneReply}
 
 -- two readings found the same fault, and the same value
@@ -71,25 +71,28 @@ entities_same input (part ∷ parts) (x ∷ a) (y ∷ b) are one two =
 entries_same : (input : List ℕ) (parts : List Part) (fault other : Option MessageFault) (a b : List Entity) → ArePartsOf input parts
     → AreEntitiesIn input parts fault a → AreEntitiesIn input parts other b → Same fault other a b
 entries_same input parts fault other a b are one two =
-    let fields = entities_same input parts one.fields two.fields are one.are_fields two.are_fields in
-    (one.is_fault ∙ ap entities_fault fields ∙ sym two.is_fault,
-     one.are_entities ∙ ap (map (entity_of input)) fields ∙ sym two.are_entities)
+    let fields = entities_same input parts one.fields two.fields are one.are_fields two.are_fields in (
+      one.is_fault ∙ ap entities_fault fields ∙ sym two.is_fault,
+      one.are_entities ∙ ap (map (entity_of input)) fields ∙ sym two.are_entities,
+    )
 
 -- markers in some parts, and the first fault in them
 marks_same : (input : List ℕ) (parts : List Part) (fault other : Option MessageFault) (a b : List Marker) → ArePartsOf input parts
     → AreMarkersIn input parts fault a → AreMarkersIn input parts other b → Same fault other a b
 marks_same input parts fault other a b are one two =
-    let messages = readings_same marker_fields input parts one.messages two.messages are one.are_readings two.are_readings in
-    (one.is_fault ∙ ap markers_fault messages ∙ sym two.is_fault,
-     one.are_markers ∙ ap (filter_map (marker_of input)) messages ∙ sym two.are_markers)
+    let messages = readings_same marker_fields input parts one.messages two.messages are one.are_readings two.are_readings in (
+      one.is_fault ∙ ap markers_fault messages ∙ sym two.is_fault,
+      one.are_markers ∙ ap (filter_map (marker_of input)) messages ∙ sym two.are_markers,
+    )
 
 -- answers in some parts, and the first fault in them
 answers_same : (input : List ℕ) (parts : List Part) (fault other : Option MessageFault) (a b : List EntryAnswer) → ArePartsOf input parts
     → AreAnswersIn input parts fault a → AreAnswersIn input parts other b → Same fault other a b
 answers_same input parts fault other a b are one two =
-    let messages = readings_same answer_fields input parts one.messages two.messages are one.are_readings two.are_readings in
-    (one.is_fault ∙ ap answers_fault messages ∙ sym two.is_fault,
-     one.are_answers ∙ ap (map (answer_of input)) messages ∙ sym two.are_answers)
+    let messages = readings_same answer_fields input parts one.messages two.messages are one.are_readings two.are_readings in (
+      one.is_fault ∙ ap answers_fault messages ∙ sym two.is_fault,
+      one.are_answers ∙ ap (map (answer_of input)) messages ∙ sym two.are_answers,
+    )
 
 pub one_entity : SayOneEntity
 one_entity input said other one two =
@@ -101,9 +104,10 @@ commit_same : (input : List ℕ) (own commit : Message) (fault other : Option Me
     → ArePartsOf input (parts_of 1 commit.fields) → IsCommit input own commit fault a → IsCommit input own commit other b → Same fault other a b
 commit_same input own commit fault other a b are one two =
     let entries = entries_same input (parts_of 1 commit.fields) one.entries_fault two.entries_fault one.entries two.entries are
-    one.are_entries two.are_entries in
-    (one.is_fault ∙ ap (λ told. first_fault (told ∷ wrong_kind commit_fields commit ∷ missing 4 own ∷ [])) entries.0 ∙ sym two.is_fault,
-     one.is_request ∙ ap (λ list. requests.Commit (record { guid = bytes_of input 2 commit.fields; entries = list })) entries.1 ∙ sym two.is_request)
+    one.are_entries two.are_entries in (
+      one.is_fault ∙ ap (λ told. first_fault (told ∷ wrong_kind commit_fields commit ∷ missing 4 own ∷ [])) entries.0 ∙ sym two.is_fault,
+      one.is_request ∙ ap (λ list. requests.Commit (record { guid = bytes_of input 2 commit.fields; entries = list })) entries.1 ∙ sym two.is_request,
+    )
 
 -- a get-updates
 get_updates_same : (input : List ℕ) (own updates : Message) (fault other : Option MessageFault) (a b : Request)
@@ -111,9 +115,10 @@ get_updates_same : (input : List ℕ) (own updates : Message) (fault other : Opt
     → Same fault other a b
 get_updates_same input own updates fault other a b are one two =
     let marks = marks_same input (parts_of 6 updates.fields) one.markers_fault two.markers_fault one.marks two.marks are
-    one.are_markers two.are_markers in
-    (one.is_fault ∙ ap (λ told. first_fault (told ∷ wrong_kind get_updates_fields updates ∷ missing 5 own ∷ [])) marks.0 ∙ sym two.is_fault,
-     one.is_request ∙ ap (λ list. requests.Updates (record { marks = list })) marks.1 ∙ sym two.is_request)
+    one.are_markers two.are_markers in (
+      one.is_fault ∙ ap (λ told. first_fault (told ∷ wrong_kind get_updates_fields updates ∷ missing 5 own ∷ [])) marks.0 ∙ sym two.is_fault,
+      one.is_request ∙ ap (λ list. requests.Updates (record { marks = list })) marks.1 ∙ sym two.is_request,
+    )
 
 -- the request that a message names
 request_same : (input : List ℕ) (own commit updates : Message) (kind : Option RequestKind) (fault other : Option MessageFault) (a b : Request)
@@ -170,10 +175,11 @@ committed_same input own fault other a b are one two =
     let message = one_message committed_fields input (parts_of 1 own.fields) one.message two.message are one.is_reading two.is_reading in
     let answers = answers_same input (groups_of 1 one.message.fields) one.answers_fault two.answers_fault one.answers two.answers
     (group_parts_within committed_fields input (parts_of 1 own.fields) one.message 1 one.is_reading) one.are_answers
-    (subst (AreAnswersOf input two.answers_fault two.answers) (sym message) two.are_answers) in
-    (one.is_fault ∙ ap (λ told. committed_fault one.message told) answers.0 ∙ ap (λ m. committed_fault m two.answers_fault) message
-     ∙ sym two.is_fault,
-     one.is_reply ∙ ap (λ list. replies.Committed list) answers.1 ∙ sym two.is_reply)
+    (subst (AreAnswersOf input two.answers_fault two.answers) (sym message) two.are_answers) in (
+      one.is_fault ∙ ap (λ told. committed_fault one.message told) answers.0 ∙ ap (λ m. committed_fault m two.answers_fault) message
+          ∙ sym two.is_fault,
+      one.is_reply ∙ ap (λ list. replies.Committed list) answers.1 ∙ sym two.is_reply,
+    )
 
 -- what is at fault in updates
 abbrev fault_of_updates : Message → Option MessageFault → Option MessageFault → Option MessageFault
@@ -196,13 +202,14 @@ updates_same input own fault other a b are one two =
     (subst (λ (m : Message). AreEntitiesIn input (parts_of 1 m.fields) two.entries_fault two.entries) (sym message) two.are_entries) in
     let marks = marks_same input (parts_of 5 one.message.fields) one.markers_fault two.markers_fault one.marks two.marks (within 5)
     one.are_markers
-    (subst (λ (m : Message). AreMarkersIn input (parts_of 5 m.fields) two.markers_fault two.marks) (sym message) two.are_markers) in
-    (one.is_fault ∙ ap (λ told. fault_of_updates one.message told one.markers_fault) entries.0
-     ∙ ap (λ told. fault_of_updates one.message two.entries_fault told) marks.0
-     ∙ ap (λ m. fault_of_updates m two.entries_fault two.markers_fault) message ∙ sym two.is_fault,
-     one.is_reply ∙ ap (λ list. made_updates one.message list one.marks) entries.1
-     ∙ ap (λ list. made_updates one.message two.entries list) marks.1
-     ∙ ap (λ m. made_updates m two.entries two.marks) message ∙ sym two.is_reply)
+    (subst (λ (m : Message). AreMarkersIn input (parts_of 5 m.fields) two.markers_fault two.marks) (sym message) two.are_markers) in (
+      one.is_fault ∙ ap (λ told. fault_of_updates one.message told one.markers_fault) entries.0
+          ∙ ap (λ told. fault_of_updates one.message two.entries_fault told) marks.0
+          ∙ ap (λ m. fault_of_updates m two.entries_fault two.markers_fault) message ∙ sym two.is_fault,
+      one.is_reply ∙ ap (λ list. made_updates one.message list one.marks) entries.1
+          ∙ ap (λ list. made_updates one.message two.entries list) marks.1
+          ∙ ap (λ m. made_updates m two.entries two.marks) message ∙ sym two.is_reply,
+    )
 
 -- what a message holds
 reply_same : (input : List ℕ) (own : Message) (kind : ReplyKind) (fault other : Option MessageFault) (a b : Reply)

@@ -1,9 +1,16 @@
 //! What holds of all messages here, by the definitions alone.
-ghost use Rattle.sync_messages.specs.Laws.{SayOneEntity, SayOneRequest, SayOneReply};
+ghost use Rattle.sync_messages.specs.Laws.{SayOneEntity, SayOneRequest, SayOneReply, EntitiesAreRead, RequestsAreRead, RepliesAreRead};
 
 /// Bytes say one message at most, so that a decoder's answer is what they say.
 pub fn bytes_say_one_message()
     ensures entities { SayOneEntity }
     ensures requests { SayOneRequest }
     ensures replies { SayOneReply }
+{}
+
+/// What an encoder writes says the message that it was given, so that the decoder gives it back.
+pub fn written_messages_are_read()
+    ensures entities { EntitiesAreRead }
+    ensures requests { RequestsAreRead }
+    ensures replies { RepliesAreRead }
 {}

@@ -1,4 +1,5 @@
 mod entities;
+mod laws;
 mod replies;
 mod reply_faults;
 mod request_faults;
