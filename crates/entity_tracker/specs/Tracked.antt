@@ -1,0 +1,8 @@
+-- A key of a client.
+use Rattle.std.specs.Prelude.{ℕ, List}
+use Rattle.sync_model.specs.declared.state.KeyState.{KeyState}
+
+-- the hash of a key, and what the client knows of it
+pub record Tracked : Type 0 where
+  pub hash : List ℕ
+  pub state : KeyState
