@@ -1,5 +1,5 @@
 //! The tracker of one key.
-ghost use Rattle.std.specs.Prelude.{◌≡◌, ◌<◌, ◌≤◌, IsTrue, is_some, IfOk};
+ghost use Rattle.std.specs.Prelude.{◌≡◌, ◌<◌, ◌≤◌, IsTrue, is_some, IfSome, IfNone, IfOk};
 ghost use Rattle.std.specs.Option.{option_copied};
 ghost use Rattle.std.specs.Str.{bytes_eq};
 ghost use Rattle.sync_model.specs.KeyStates.{new_state, edited, accepted, rebased, acknowledged, is_locked_by, needs_seal};
@@ -107,6 +107,20 @@ impl Tracker {
         self.lock.as_ref()
     }
 
+    /// The number of the edit that the server lacks, which is the last one. Where it lacks none, the own value is
+    /// what the server has.
+    pub fn due(&self) -> Option<u64>
+        ensures due { result ≡ self.now.state.due }
+        ensures last { IfSome result (λ number. number ≡ self.now.state.last_edit) }
+        ensures in_sync { IfNone result (self.now.state.own ≡ self.now.state.base) }
+    {
+        if self.is_due() {
+            Some(self.sequence)
+        } else {
+            None
+        }
+    }
+
     /// The server lacks the last edit.
     pub fn is_due(&self) -> bool
         ensures { result ≡ is_some self.now.state.due }
@@ -124,14 +138,14 @@ impl Tracker {
     }
 
     /// Takes an update as what is known and as the own value. Nothing is due then.
-    pub fn accept_remote(&mut self, update: Update, own: Value)
-        requires newer { self.old.state.known < update.version }
-        requires own { own ≡ update.value }
-        ensures { self.new ≡ record self.old { state = accepted self.old.state update } }
+    pub fn accept_remote(&mut self, remote: Update, own: Value)
+        requires newer { self.old.state.known < remote.version }
+        requires own { own ≡ remote.value }
+        ensures { self.new ≡ record self.old { state = accepted self.old.state remote } }
     {
-        self.known = update.version;
-        self.base = update.value;
-        self.lock = update.lock;
+        self.known = remote.version;
+        self.base = remote.value;
+        self.lock = remote.lock;
         self.own = own;
         self.acked = self.sequence;
     }
@@ -153,9 +167,7 @@ impl Tracker {
         requires due { IsTrue (is_some self.old.state.due) }
         ensures { self.new ≡ record self.old { state = rebased self.old.state update own } }
     {
-        self.known = update.version;
-        self.base = update.value;
-        self.lock = update.lock;
+        self.keep_local(update);
         self.own = own;
     }
 
@@ -171,18 +183,18 @@ impl Tracker {
             return Acked::Old { known: self.known };
         }
         let acked = self.acked.max(ack.number);
-        let update = Update {
+        let write = Update {
             hash: ack.hash,
             version: ack.version,
             value: ack.value,
             lock: ack.lock,
         };
         if acked == self.sequence {
-            self.accept_remote(update, own);
+            self.accept_remote(write, own);
             return Acked::Applied;
         }
         self.acked = acked;
-        self.keep_local(update);
+        self.keep_local(write);
         Acked::Applied
     }
 
@@ -199,6 +211,22 @@ impl Tracker {
             && !is_locked_by(&self.lock, name)
     }
 
+    /// A second tracker of the same key, in time linear in its values.
+    pub fn copy(&self) -> Result<Tracker, NoMemory>
+        ensures { IfOk result (λ copy. copy ≡ self.now) }
+    {
+        Ok(Tracker {
+            alloc: self.alloc,
+            hash: self.hash,
+            known: self.known,
+            base: self.base.copy()?,
+            own: self.own.copy()?,
+            sequence: self.sequence,
+            acked: self.acked,
+            lock: copied(&self.lock)?,
+        })
+    }
+
     /// What is to be sent of the key, in time linear in its value.
     pub fn offer(&self) -> Result<Offer, NoMemory>
         ensures { IfOk result (λ offer. offer ≡ offer_for self.now.hash self.now.state self.now.state.last_edit) }
@@ -209,6 +237,15 @@ impl Tracker {
             value: self.own.copy()?,
             number: self.sequence,
         })
+    }
+}
+
+fn copied(lock: &Option<Octets>) -> Result<Option<Octets>, NoMemory>
+    ensures { IfOk result (λ copy. copy ≡ lock.now) }
+{
+    match lock {
+        Some(name) => Ok(Some(name.copy()?)),
+        None => Ok(None),
     }
 }
 
