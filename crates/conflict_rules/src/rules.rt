@@ -33,15 +33,15 @@ pub trait TypeRules {
 }
 
 /// The rule of preferences: the server's wins.
-#[derive(Clone, Copy, Debug, Drop)]
+#[derive(Clone, Copy, Debug)]
 pub struct Preferences;
 
 /// The rule of logins: the one that was made later wins, and the server's where both were made at once.
-#[derive(Clone, Copy, Debug, Drop)]
+#[derive(Clone, Copy, Debug)]
 pub struct Passwords;
 
 /// The rule of a profile's keys: the server's win.
-#[derive(Clone, Copy, Debug, Drop)]
+#[derive(Clone, Copy, Debug)]
 pub struct NigoriRules;
 
 impl TypeRules for Preferences {

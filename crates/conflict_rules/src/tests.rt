@@ -5,39 +5,34 @@ ghost use Rattle.sync_model.specs.declared.conflict.Decision.TheVariants.{Merged
 use crate::*;
 use std::alloc::Global;
 use std::test::Fail;
-use sync_values::{NigoriKey, NigoriValue, PassKind, Password, Preference, Value};
+use sync_values::{NigoriValue, PassKind, Password, Preference, Value};
 use wire_fields::{List, NoMemory, Octets};
 
-fn preference(alloc: Global, value: &[u8]) -> Result<Value, NoMemory> {
-    Ok(Value::Preference(Preference {
-        name: Octets::from_slice(alloc, b"a")?,
-        value: Octets::from_slice(alloc, value)?,
-    }))
+fn preference(alloc: Global, value: Octets) -> Value {
+    Value::Preference(Preference {
+        name: Octets::new(alloc),
+        value,
+    })
 }
 
-fn login(alloc: Global, secret: &[u8], created: i64) -> Result<Value, NoMemory> {
-    Ok(Value::Password(Password {
-        origin: Octets::from_slice(alloc, b"https://a.example/")?,
-        user_element: Octets::from_slice(alloc, b"u")?,
-        user_value: Octets::from_slice(alloc, b"bob")?,
-        pass_element: Octets::from_slice(alloc, b"p")?,
-        realm: Octets::from_slice(alloc, b"https://a.example/")?,
-        secret: Octets::from_slice(alloc, secret)?,
+fn login(alloc: Global, secret: Octets, created: i64) -> Value {
+    Value::Password(Password {
+        origin: Octets::new(alloc),
+        user_element: Octets::new(alloc),
+        user_value: Octets::new(alloc),
+        pass_element: Octets::new(alloc),
+        realm: Octets::new(alloc),
+        secret,
         created,
-    }))
+    })
 }
 
-fn keys(alloc: Global, pass_kind: PassKind) -> Result<Value, NoMemory> {
-    let key = NigoriKey {
-        user: [1; 16],
-        enc: [2; 16],
-        mac: [3; 16],
-    };
-    Ok(Value::Nigori(NigoriValue {
-        lock: Octets::from_slice(alloc, b"key")?,
-        keys: List::from_vec(Vec::from_slice(alloc, &[key])?),
+fn keys(alloc: Global, pass_kind: PassKind) -> Value {
+    Value::Nigori(NigoriValue {
+        lock: Octets::new(alloc),
+        keys: List::new(alloc),
         pass_kind,
-    }))
+    })
 }
 
 // A rule under which the client's value stands for both.
@@ -57,18 +52,20 @@ impl TypeRules for OwnForBoth {
     }
 }
 
-// The row that fits, and what it does in a word.
-fn settled<R: TypeRules>(
+// The row that fits is this one, and does what the word says.
+fn settles<R: TypeRules>(
     rules: &R,
-    base: &Value,
-    own: &Value,
-    remote: &Value,
-) -> Result<(Row, &'static str), NoMemory> {
-    let resolution = resolve(rules, base, own, remote)?;
-    Ok((resolution.row, word(&resolution.choice)))
+    values: (&Value, &Value, &Value),
+    row: Row,
+    done: &str,
+) -> bool {
+    match resolve(rules, values.0, values.1, values.2) {
+        Ok(resolution) => resolution.row == row && word(resolution.choice) == done,
+        Err(NoMemory) => false,
+    }
 }
 
-fn word(choice: &Choice) -> &'static str {
+fn word(choice: Choice) -> &'static str {
     match choice {
         Choice::Same => "same",
         Choice::Remote => "remote",
@@ -79,109 +76,56 @@ fn word(choice: &Choice) -> &'static str {
 
 #[test]
 fn settles_values_by_the_first_row_that_fits(rt: HostRuntime) -> Result<(), Fail> {
-    let one = preference(rt.alloc(), b"1")?;
-    let two = preference(rt.alloc(), b"2")?;
-    let nine = preference(rt.alloc(), b"9")?;
+    let rules = Preferences;
+    let text = Octets::from_slice(rt.alloc(), b"2")?;
+    let other_text = Octets::from_slice(rt.alloc(), b"9")?;
     let none = Value::Absent;
-    assert_eq!(rt; settled(&Preferences, &one, &two, &two)?, (Row::C1, "same"));
-    assert_eq!(rt;
-        settled(&Preferences, &one, &none, &none)?,
-        (Row::C1, "same")
-    );
-    assert_eq!(rt;
-        settled(&Preferences, &one, &none, &two)?,
-        (Row::C2, "remote")
-    );
-    assert_eq!(rt;
-        settled(&Preferences, &none, &none, &two)?,
-        (Row::C2, "remote")
-    );
-    assert_eq!(rt;
-        settled(&Preferences, &one, &one, &two)?,
-        (Row::C3, "remote")
-    );
-    assert_eq!(rt;
-        settled(&Preferences, &one, &one, &none)?,
-        (Row::C3, "remote")
-    );
-    assert_eq!(rt;
-        settled(&Preferences, &one, &two, &one)?,
-        (Row::C4, "local")
-    );
-    assert_eq!(rt;
-        settled(&Preferences, &none, &two, &none)?,
-        (Row::C4, "local")
-    );
-    assert_eq!(rt;
-        settled(&Preferences, &one, &two, &none)?,
-        (Row::C5, "local")
-    );
-    assert_eq!(rt;
-        settled(&Preferences, &one, &two, &nine)?,
-        (Row::C6, "remote")
-    );
+    let one = preference(rt.alloc(), Octets::new(rt.alloc()));
+    let two = preference(rt.alloc(), text);
+    let nine = preference(rt.alloc(), other_text);
+    assert!(rt; settles(&rules, (&one, &two, &two), Row::C1, "same"));
+    assert!(rt; settles(&rules, (&one, &none, &none), Row::C1, "same"));
+    assert!(rt; settles(&rules, (&one, &none, &two), Row::C2, "remote"));
+    assert!(rt; settles(&rules, (&none, &none, &two), Row::C2, "remote"));
+    assert!(rt; settles(&rules, (&one, &one, &two), Row::C3, "remote"));
+    assert!(rt; settles(&rules, (&one, &one, &none), Row::C3, "remote"));
+    assert!(rt; settles(&rules, (&one, &two, &one), Row::C4, "local"));
+    assert!(rt; settles(&rules, (&none, &two, &none), Row::C4, "local"));
+    assert!(rt; settles(&rules, (&one, &two, &none), Row::C5, "local"));
+    assert!(rt; settles(&rules, (&one, &two, &nine), Row::C6, "remote"));
     Ok(())
 }
 
 #[test]
 fn takes_the_login_that_was_made_later(rt: HostRuntime) -> Result<(), Fail> {
+    let secret = Octets::from_slice(rt.alloc(), b"remote")?;
     let none = Value::Absent;
-    let own = login(rt.alloc(), b"own", 5)?;
-    let later = login(rt.alloc(), b"own", 6)?;
-    let remote = login(rt.alloc(), b"remote", 5)?;
-    assert_eq!(rt;
-        settled(&Passwords, &none, &own, &remote)?,
-        (Row::C6, "remote")
-    );
-    assert_eq!(rt;
-        settled(&Passwords, &none, &later, &remote)?,
-        (Row::C6, "local")
-    );
-    assert_eq!(rt;
-        settled(&Passwords, &none, &own, &later)?,
-        (Row::C6, "remote")
-    );
+    let own = login(rt.alloc(), Octets::new(rt.alloc()), 5);
+    let later = login(rt.alloc(), Octets::new(rt.alloc()), 6);
+    let remote = login(rt.alloc(), secret, 5);
+    assert!(rt; settles(&Passwords, (&none, &own, &remote), Row::C6, "remote"));
+    assert!(rt; settles(&Passwords, (&none, &later, &remote), Row::C6, "local"));
+    assert!(rt; settles(&Passwords, (&none, &own, &later), Row::C6, "remote"));
     Ok(())
 }
 
 #[test]
-fn takes_the_keys_of_the_server(rt: HostRuntime) -> Result<(), Fail> {
+fn takes_the_keys_of_the_server(rt: HostRuntime) {
     let none = Value::Absent;
-    let own = keys(rt.alloc(), PassKind::Custom)?;
-    let remote = keys(rt.alloc(), PassKind::Keystore)?;
-    assert_eq!(rt;
-        settled(&NigoriRules, &none, &own, &remote)?,
-        (Row::C6, "remote")
-    );
-    assert_eq!(rt;
-        settled(&NigoriRules, &none, &own, &own)?,
-        (Row::C1, "same")
-    );
-    assert_eq!(rt;
-        settled(&NigoriRules, &own, &none, &remote)?,
-        (Row::C2, "remote")
-    );
-    assert_eq!(rt;
-        settled(&NigoriRules, &remote, &own, &none)?,
-        (Row::C5, "local")
-    );
-    Ok(())
+    let own = keys(rt.alloc(), PassKind::Custom);
+    let remote = keys(rt.alloc(), PassKind::Keystore);
+    assert!(rt; settles(&NigoriRules, (&none, &own, &remote), Row::C6, "remote"));
+    assert!(rt; settles(&NigoriRules, (&none, &own, &own), Row::C1, "same"));
+    assert!(rt; settles(&NigoriRules, (&own, &none, &remote), Row::C2, "remote"));
+    assert!(rt; settles(&NigoriRules, (&remote, &own, &none), Row::C5, "local"));
 }
 
 #[test]
-fn merges_where_the_rule_does(rt: HostRuntime) -> Result<(), Fail> {
-    let one = preference(rt.alloc(), b"1")?;
-    let two = preference(rt.alloc(), b"2")?;
-    let nine = preference(rt.alloc(), b"9")?;
-    assert_eq!(rt;
-        settled(&OwnForBoth, &one, &two, &nine)?,
-        (Row::C6, "merged")
-    );
-    assert_eq!(rt; settled(&OwnForBoth, &one, &two, &one)?, (Row::C4, "local"));
-    let resolution = resolve(&OwnForBoth, &one, &two, &nine)?;
-    let Choice::Merged(Value::Preference(merged)) = &resolution.choice else {
-        return Err("two preferences were to be merged".into());
-    };
-    assert_eq!(rt; merged.value.as_slice(), b"2".as_slice());
-    Ok(())
+fn merges_where_the_rule_does(rt: HostRuntime) {
+    let one = login(rt.alloc(), Octets::new(rt.alloc()), 1);
+    let two = login(rt.alloc(), Octets::new(rt.alloc()), 2);
+    let nine = login(rt.alloc(), Octets::new(rt.alloc()), 9);
+    assert!(rt; settles(&OwnForBoth, (&one, &two, &nine), Row::C6, "merged"));
+    assert!(rt; settles(&OwnForBoth, (&one, &two, &one), Row::C4, "local"));
+    assert!(rt; settles(&OwnForBoth, (&one, &one, &nine), Row::C3, "remote"));
 }

@@ -1,36 +1,57 @@
-// The story of a key, its states worked out by hand.
-ghost use Rattle.std.specs.Prelude.{◌≡◌, IfOk};
+// The story of a key, its states worked out by hand. The values are logins that differ in when they were made.
+ghost use Rattle.std.specs.Prelude.{◌≡◌, []};
+ghost use Rattle.sync_values.specs.declared.value.Value.TheVariants.{Password as login_value};
 
 use crate::*;
 use std::alloc::Global;
-use std::test::Fail;
-use sync_values::{Preference, Value};
-use wire_fields::{NoMemory, Octets};
+use sync_values::{Password, Value};
+use wire_fields::Octets;
 
-fn preference(alloc: Global, value: &[u8]) -> Result<Value, NoMemory> {
-    Ok(Value::Preference(Preference {
-        name: Octets::from_slice(alloc, b"a")?,
-        value: Octets::from_slice(alloc, value)?,
-    }))
+const HASH: TagHash = TagHash { bytes: [7; 20] };
+
+fn login(alloc: Global, created: i64) -> Value
+    ensures { result ≡ login_value (record { origin = []; user_element = []; user_value = []; pass_element = []; realm = []; secret = []; created = created }) }
+{
+    Value::Password(Password {
+        origin: Octets::new(alloc),
+        user_element: Octets::new(alloc),
+        user_value: Octets::new(alloc),
+        pass_element: Octets::new(alloc),
+        realm: Octets::new(alloc),
+        secret: Octets::new(alloc),
+        created,
+    })
 }
 
-// The text of a preference, and none of other values.
-fn text(value: &Value) -> &[u8] {
+// When a login was made, and 0 for other values.
+fn made(value: &Value) -> i64 {
     match value {
-        Value::Preference(preference) => preference.value.as_slice(),
-        _ => b"",
+        Value::Password(login) => login.created,
+        _ => 0,
     }
 }
 
-// A tracker whose first edit sets this value.
-fn edited(alloc: Global, value: &[u8]) -> Result<Tracker, NoMemory>
-    ensures known { IfOk result (λ tracker. tracker.state.known ≡ 0) }
-    ensures last_edit { IfOk result (λ tracker. tracker.state.last_edit ≡ 1) }
-    ensures due { IfOk result (λ tracker. tracker.state.due ≡ Some 1) }
-{
-    let mut tracker = Tracker::fresh(alloc, TagHash { bytes: [7; 20] });
-    tracker.local_change(preference(alloc, value)?, 1);
-    Ok(tracker)
+// What is known, when the base and the own value were made, and what is due.
+fn state(tracker: &Tracker) -> (u64, i64, i64, Option<u64>) {
+    (
+        tracker.known(),
+        made(tracker.base()),
+        made(tracker.own()),
+        tracker.due(),
+    )
+}
+
+// What an offer says: how long the hash is, what is known, when the value was made, and the number.
+fn offered(tracker: &Tracker) -> Option<(usize, u64, i64, u64)> {
+    match tracker.offer() {
+        Ok(offer) => Some((
+            offer.hash.len(),
+            offer.known,
+            made(&offer.value),
+            offer.number,
+        )),
+        Err(_) => None,
+    }
 }
 
 fn update(alloc: Global, version: u64, value: Value) -> Update
@@ -46,6 +67,7 @@ fn update(alloc: Global, version: u64, value: Value) -> Update
 }
 
 fn ack(alloc: Global, version: u64, value: Value, number: u64) -> Ack
+    ensures version { result.version ≡ version }
     ensures value { result.value ≡ value }
     ensures number { result.number ≡ number }
 {
@@ -54,113 +76,65 @@ fn ack(alloc: Global, version: u64, value: Value, number: u64) -> Ack
         version,
         value,
         number,
-        lock: None,
+        lock: Some(Octets::new(alloc)),
     }
 }
 
 #[test]
 fn a_new_key_has_nothing(rt: HostRuntime) {
-    let tracker = Tracker::fresh(rt.alloc(), TagHash { bytes: [7; 20] });
-    assert_eq!(rt; tracker.hash().bytes, [7; 20]);
-    assert_eq!(rt; tracker.known(), 0);
+    let tracker = Tracker::fresh(rt.alloc(), HASH);
+    assert_eq!(rt; tracker.hash(), HASH);
     assert_eq!(rt; tracker.sequence(), 0);
-    assert_eq!(rt; tracker.due(), None);
-    assert!(rt; matches!(tracker.base(), Value::Absent));
-    assert!(rt; matches!(tracker.own(), Value::Absent));
+    assert_eq!(rt; state(&tracker), (0, 0, 0, None));
     assert!(rt; tracker.lock().is_none());
 }
 
 #[test]
-fn an_edit_is_offered_until_it_is_acknowledged(rt: HostRuntime) -> Result<(), Fail> {
-    let mut tracker = edited(rt.alloc(), b"1")?;
-    let offer = tracker.offer()?;
-    assert_eq!(rt; offer.hash.as_slice(), [7; 20].as_slice());
-    assert_eq!(rt; offer.known, 0);
-    assert_eq!(rt; text(&offer.value), b"1".as_slice());
-    assert_eq!(rt; offer.number, 1);
-    let own = offer.value.copy()?;
-    let came = tracker.acknowledge(ack(rt.alloc(), 5, offer.value, 1), own);
-    assert_eq!(rt; came, Acked::Applied);
-    assert_eq!(rt; tracker.known(), 5);
-    assert_eq!(rt; text(tracker.base()), b"1".as_slice());
-    assert_eq!(rt; text(tracker.own()), b"1".as_slice());
-    assert!(rt; !tracker.is_due());
-    Ok(())
+fn an_edit_is_sent_and_acknowledged(rt: HostRuntime) {
+    let alloc = rt.alloc();
+    let mut tracker = Tracker::fresh(alloc, HASH);
+    tracker.local_change(login(alloc, 1), 1);
+    assert_eq!(rt; offered(&tracker), Some((20, 0, 1, 1)));
+    tracker.local_change(login(alloc, 2), 3);
+    assert_eq!(rt; state(&tracker), (0, 0, 2, Some(3)));
+    let first = tracker.acknowledge(ack(alloc, 5, login(alloc, 1), 1), login(alloc, 1));
+    assert_eq!(rt; first, Acked::Applied);
+    assert_eq!(rt; state(&tracker), (5, 1, 2, Some(3)));
+    assert!(rt; tracker.sequence() == 3);
+    let again = tracker.acknowledge(ack(alloc, 5, login(alloc, 1), 1), login(alloc, 1));
+    assert_eq!(rt; again, Acked::Old { known: 5 });
+    assert!(rt; tracker.sequence() == 3);
+    let second = tracker.acknowledge(ack(alloc, 6, login(alloc, 2), 3), login(alloc, 2));
+    assert_eq!(rt; second, Acked::Applied);
+    assert_eq!(rt; state(&tracker), (6, 2, 2, None));
 }
 
 #[test]
-fn an_acknowledgement_ends_the_edit_that_was_sent(rt: HostRuntime) -> Result<(), Fail> {
-    let mut tracker = edited(rt.alloc(), b"1")?;
-    tracker.local_change(preference(rt.alloc(), b"2")?, 3);
-    let sent = preference(rt.alloc(), b"1")?;
-    let own = sent.copy()?;
-    let came = tracker.acknowledge(ack(rt.alloc(), 5, sent, 1), own);
-    assert_eq!(rt; came, Acked::Applied);
-    assert_eq!(rt; tracker.known(), 5);
-    assert_eq!(rt; text(tracker.base()), b"1".as_slice());
-    assert_eq!(rt; text(tracker.own()), b"2".as_slice());
-    assert_eq!(rt; tracker.due(), Some(3));
-    Ok(())
+fn an_edit_meets_writes_of_its_key(rt: HostRuntime) {
+    let alloc = rt.alloc();
+    let mut tracker = Tracker::fresh(alloc, HASH);
+    tracker.local_change(login(alloc, 1), 1);
+    tracker.keep_local(update(alloc, 2, Value::Absent));
+    assert_eq!(rt; state(&tracker), (2, 0, 1, Some(1)));
+    assert_eq!(rt; offered(&tracker), Some((20, 2, 1, 1)));
+    tracker.accept_merged(update(alloc, 4, login(alloc, 7)), login(alloc, 8));
+    assert_eq!(rt; state(&tracker), (4, 7, 8, Some(1)));
+    tracker.accept_remote(update(alloc, 9, login(alloc, 3)), login(alloc, 3));
+    assert_eq!(rt; state(&tracker), (9, 3, 3, None));
 }
 
 #[test]
-fn a_known_version_is_not_acknowledged_again(rt: HostRuntime) -> Result<(), Fail> {
-    let mut tracker = edited(rt.alloc(), b"1")?;
-    tracker.keep_local(update(rt.alloc(), 5, preference(rt.alloc(), b"9")?));
-    let sent = preference(rt.alloc(), b"1")?;
-    let own = sent.copy()?;
-    let came = tracker.acknowledge(ack(rt.alloc(), 5, sent, 1), own);
-    assert_eq!(rt; came, Acked::Old { known: 5 });
-    assert_eq!(rt; text(tracker.base()), b"9".as_slice());
-    assert_eq!(rt; tracker.due(), Some(1));
-    Ok(())
-}
-
-#[test]
-fn a_kept_value_is_offered_for_the_new_version(rt: HostRuntime) -> Result<(), Fail> {
-    let mut tracker = edited(rt.alloc(), b"1")?;
-    tracker.keep_local(update(rt.alloc(), 2, Value::Absent));
-    let offer = tracker.offer()?;
-    assert_eq!(rt; offer.known, 2);
-    assert_eq!(rt; text(&offer.value), b"1".as_slice());
-    assert_eq!(rt; offer.number, 1);
-    Ok(())
-}
-
-#[test]
-fn a_merged_value_stays_due(rt: HostRuntime) -> Result<(), Fail> {
-    let mut tracker = edited(rt.alloc(), b"1")?;
-    let merged = preference(rt.alloc(), b"12")?;
-    tracker.accept_merged(update(rt.alloc(), 2, preference(rt.alloc(), b"2")?), merged);
-    assert_eq!(rt; tracker.known(), 2);
-    assert_eq!(rt; text(tracker.base()), b"2".as_slice());
-    assert_eq!(rt; text(tracker.own()), b"12".as_slice());
-    assert_eq!(rt; tracker.due(), Some(1));
-    Ok(())
-}
-
-#[test]
-fn a_value_under_another_key_is_sealed_anew(rt: HostRuntime) -> Result<(), Fail> {
-    let mut tracker = edited(rt.alloc(), b"1")?;
-    let old = Octets::from_slice(rt.alloc(), b"old")?;
-    let new = Octets::from_slice(rt.alloc(), b"new")?;
-    let remote = preference(rt.alloc(), b"2")?;
-    let own = remote.copy()?;
-    tracker.accept_remote(
-        Update {
-            hash: Octets::new(rt.alloc()),
-            version: 4,
-            value: remote,
-            lock: Some(old.copy()?),
-        },
-        own,
-    );
-    assert!(rt; tracker.needs_seal(Some(&new)));
-    assert!(rt; !tracker.needs_seal(Some(&old)));
+fn a_value_under_another_key_is_sealed_anew(rt: HostRuntime) {
+    let alloc = rt.alloc();
+    let name = Octets::new(alloc);
+    let mut tracker = Tracker::fresh(alloc, HASH);
+    tracker.accept_remote(update(alloc, 4, login(alloc, 3)), login(alloc, 3));
+    assert!(rt; tracker.needs_seal(Some(&name)));
     assert!(rt; !tracker.needs_seal(None));
-    let copy = tracker.copy()?;
-    assert_eq!(rt; text(copy.own()), b"2".as_slice());
-    tracker.local_change(Value::Absent, 2);
-    assert!(rt; !tracker.needs_seal(Some(&new)));
-    Ok(())
+    tracker.local_change(login(alloc, 1), 1);
+    assert!(rt; !tracker.needs_seal(Some(&name)));
+    let _ = tracker.acknowledge(ack(alloc, 5, login(alloc, 1), 1), login(alloc, 1));
+    assert!(rt; tracker.lock().is_some());
+    assert!(rt; !tracker.needs_seal(Some(&name)));
+    assert!(rt; tracker.copy().is_ok());
 }
