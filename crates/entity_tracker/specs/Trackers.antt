@@ -1,6 +1,5 @@
 -- What a tracker stands for.
-use Rattle.std.specs.Prelude.{◌≡◌, ℕ, ◌≤◌, nat_lt, if◌then◌else◌, List, Option, Some, None}
-use Rattle.sync_model.specs.declared.state.KeyState.{KeyState}
+use Rattle.std.specs.Prelude.{◌≡◌, ℕ, ◌≤◌, nat_lt, if◌then◌else◌, Option, Some, None}
 use Rattle.entity_tracker.specs.declared.tracker.Tracker.TheInside.{Inside}
 use Rattle.entity_tracker.specs.Tracked.{Tracked}
 

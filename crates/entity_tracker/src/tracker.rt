@@ -1,7 +1,6 @@
 //! The tracker of one key.
 ghost use Rattle.std.specs.Prelude.{◌≡◌, ◌<◌, ◌≤◌, IsTrue, is_some, IfSome, IfNone, IfOk};
 ghost use Rattle.std.specs.Option.{option_copied};
-ghost use Rattle.std.specs.Str.{bytes_eq};
 ghost use Rattle.sync_model.specs.KeyStates.{new_state, edited, accepted, rebased, acknowledged, is_locked_by, needs_seal};
 ghost use Rattle.sync_model.specs.Offers.{offer_for};
 ghost use Rattle.entity_tracker.specs.Acked.{acked_as};
