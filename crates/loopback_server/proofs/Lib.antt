@@ -1,0 +1,5 @@
+mod Ties
+mod StoreLemmas
+mod CommitLemmas
+mod PageLemmas
+mod Based

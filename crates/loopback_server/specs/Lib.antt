@@ -1,0 +1,7 @@
+pub mod Entries
+pub mod Messages
+pub mod Indexes
+pub mod Stores
+pub mod Candidates
+pub mod Pages
+pub mod Servers
