@@ -101,11 +101,9 @@ fn parts(rt: HostRuntime) -> Result<(), Fail> {
     let mut out = Vec::new(rt.alloc());
     write_value(&mut out, &login(rt.alloc())?)?;
     write_lock(&mut out, &None)?;
-    write_number(&mut out, u64::MAX)?;
-    write_kind(&mut out, Kind::Password)?;
     assert_eq!(rt;
         out.as_slice(),
-        b"https://a.example/ user me - a%20realm %2D -12plain18446744073709551615password".as_slice()
+        b"https://a.example/ user me - a%20realm %2D -12plain".as_slice()
     );
     Ok(())
 }
