@@ -10,15 +10,14 @@ use Rattle.std.proofs.lemmas.Map.Text.{is_eq-slice_cmp}
 use Rattle.client_tags.specs.declared.Kind.{Kind}
 use Rattle.client_tags.specs.declared.Kind.TheVariants.{Nigori, Preference, Password}
 use Rattle.client_tags.specs.declared.hash.TagHash.{TagHash}
-use Rattle.sync_model.specs.Values.{same_key}
 use Rattle.loopback_server.specs.declared.write.EntityKey.{EntityKey}
-use Rattle.loopback_server.specs.Indexes.{key_of, is_key, indexed, version_at, HasPlace}
+use Rattle.loopback_server.specs.Indexes.{is_key, indexed, version_at, HasPlace}
 use Rattle.loopback_server.specs.contracts.write.EntityKeyOrd.TheImpl.{cmp-value}
 
 abbrev key_with : Kind → TagHash → EntityKey
 key_with kind hash = record { kind = kind; hash = hash }
 
-by_kinds : (k l : Kind) (h g : TagHash) → is_at (cmp-value.it (record { kind = k; hash = h })) (record { kind = l; hash = g }) ≡ same_key (record { kind = k; hash = h.bytes }) (record { kind = l; hash = g.bytes })
+by_kinds : (k l : Kind) (h g : TagHash) → is_at (cmp-value.it (key_with k h)) (key_with l g) ≡ is_key (key_with k h) (key_with l g)
 by_kinds Nigori Nigori h g = is_eq-slice_cmp h.bytes g.bytes
 by_kinds Nigori Preference h g = refl
 by_kinds Nigori Password h g = refl
@@ -29,7 +28,7 @@ by_kinds Password Nigori h g = refl
 by_kinds Password Preference h g = refl
 by_kinds Password Password h g = is_eq-slice_cmp h.bytes g.bytes
 
-pub ties : (a b : EntityKey) → is_at (cmp-value.it a) b ≡ same_key (key_of a) (key_of b)
+ties : (a b : EntityKey) → is_at (cmp-value.it a) b ≡ is_key a b
 ties a b = by_kinds a.kind b.kind a.hash b.hash
 
 -- what a map tells at a key is what the index has there
@@ -58,7 +57,7 @@ one_by Password Nigori h g same = absurd (true≢false (sym same))
 one_by Password Preference h g same = absurd (true≢false (sym same))
 one_by Password Password h g same = one_hash Password h g same
 
-pub one_key : (a b : EntityKey) → is_key a b ≡ true → a ≡ b
+one_key : (a b : EntityKey) → is_key a b ≡ true → a ≡ b
 one_key a b same = one_by a.kind b.kind a.hash b.hash same
 
 -- a key is itself
@@ -67,7 +66,7 @@ itself_by Nigori h = (bytes_eq-Decides h.bytes h.bytes).1 refl
 itself_by Preference h = (bytes_eq-Decides h.bytes h.bytes).1 refl
 itself_by Password h = (bytes_eq-Decides h.bytes h.bytes).1 refl
 
-pub key_is_itself : (key : EntityKey) → is_key key key ≡ true
+key_is_itself : (key : EntityKey) → is_key key key ≡ true
 key_is_itself key = itself_by key.kind key.hash
 
 by_same : (found : Option ℕ) (same : Bool) → (same ≡ true → found ≡ None) → unwrap_or (cond same (Some 0) found) 0 ≡ unwrap_or found 0
