@@ -1,5 +1,5 @@
 -- What is said of the command that was run is said of each command with the same words.
-use Rattle.std.proofs.Common.{◌≡◌, ℕ, List, [], ◌∷◌, length, get_or, refl, ap, sym, subst, ◌∙◌, arith}
+use Rattle.std.proofs.Common.{◌≡◌, ℕ, List, [], length, get_or, refl, ap, sym, subst, ◌∙◌, arith}
 use Rattle.std.specs.Prelude.{Option}
 use Rattle.message_text.specs.declared.message.Direction.{Direction}
 use Rattle.message_text.specs.declared.message.Direction.TheVariants.{ToServer, FromServer}
@@ -18,7 +18,7 @@ use Rattle.sync_program.specs.Texts.{bad_schedule_line}
 use Rattle.sync_program.specs.Outside.{Reading, Writing, SourceFailed, SinkFailed, TellsInput, TellsTooMuch}
 use Rattle.sync_program.specs.Work.{Work, HasCause, GivesOutput, GivesRefusal, RefusesLength, IsOkOrNoMemory}
 use Rattle.sync_program.specs.Wire.{MAX_MESSAGE, IsLookedInto, IsNoMessage, looking}
-use Rattle.sync_program.specs.Replay.{MAX_TEXT, IsReplayed, IsNoSchedule, TellsSchedule, report_of, replaying}
+use Rattle.sync_program.specs.Replay.{MAX_TEXT, IsReplayed, TellsSchedule, report_of, replaying}
 
 -- one word says one way to look
 same_look : (a b : Look) → look_word a ≡ look_word b → a ≡ b

@@ -1,6 +1,6 @@
 -- Lists of words by their length and their words.
-use Rattle.std.proofs.Common.{◌≡◌, ℕ, List, [], ◌∷◌, length, ap, sym, ◌∙◌, arith}
-use Rattle.std.specs.Prelude.{Option, Some, slice_get}
+use Rattle.std.proofs.Common.{◌≡◌, ℕ, List, [], ◌∷◌, length, arith}
+use Rattle.std.specs.Prelude.{Some, slice_get}
 
 -- a list of length 1 is its word
 pub one_word : (words : List (List ℕ)) (word : List ℕ) → length words ≡ 1 → slice_get words 0 ≡ Some word → words ≡ word ∷ []

@@ -1,5 +1,5 @@
 -- Each command gives one output at most of an input, or one refusal.
-use Rattle.std.proofs.Common.{◌≡◌, ℕ, Bool, true, false, List, refl, sym, ap, subst, ◌∙◌}
+use Rattle.std.proofs.Common.{◌≡◌, Bool, true, false, refl, sym, ap, subst, ◌∙◌}
 use Rattle.std.specs.Prelude.{◌↔◌, IsTrue, Result, Ok, Err}
 use Rattle.message_fields.specs.declared.fault.MessageFault.{MessageFault}
 use Rattle.message_text.specs.declared.message.WireMessage.{WireMessage}

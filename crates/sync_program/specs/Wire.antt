@@ -1,5 +1,5 @@
 -- What the commands do that look into a message.
-use Rattle.std.specs.Prelude.{◌≡◌, ◌↔◌, ℕ, Bool, IsTrue, List, Option, Result, Ok, Err}
+use Rattle.std.specs.Prelude.{◌≡◌, ◌↔◌, ℕ, Bool, IsTrue, List, Ok, Err}
 use Rattle.message_fields.specs.declared.fault.MessageFault.{MessageFault}
 use Rattle.message_text.specs.declared.message.WireMessage.{WireMessage}
 use Rattle.message_text.specs.Messages.{Says, canonical_bytes}

@@ -1,4 +1,4 @@
-use Rattle.std.proofs.Common.{ap, ◌∙◌, rules}
+use Rattle.std.proofs.Common.{ap, ◌∙◌}
 use Rattle.sync_program.specs.declared.command.Command.TheVariants.{Replay, Wire}
 use Rattle.sync_program.specs.Command.{words_of}
 use Rattle.sync_program.proofs.Commands.{runs_named, replay_runs, wire_runs}
