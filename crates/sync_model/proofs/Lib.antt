@@ -31,6 +31,7 @@ pub mod KeyMails
 pub mod KeySending
 pub mod KeyReplies
 pub mod KeyWorlds
+pub mod KeyOpening
 pub mod FateKeys
 pub mod FateUpdates
 pub mod FateAcks

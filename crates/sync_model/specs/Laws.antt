@@ -19,10 +19,12 @@ use Rattle.sync_model.specs.declared.event.Schedule.{Schedule}
 use Rattle.sync_model.specs.declared.fate.Fate.{Fate}
 use Rattle.sync_model.specs.declared.fate.Fate.TheVariants.{Followed, Committed, Matched, Taken, Merged}
 use Rattle.sync_model.specs.declared.message.Answer.{Answer}
+use Rattle.sync_model.specs.declared.message.Batch.{Batch}
 use Rattle.sync_model.specs.declared.message.Answer.TheVariants.{Success}
 use Rattle.sync_model.specs.declared.message.Content.{Content}
 use Rattle.sync_model.specs.declared.message.Entry.{Entry}
 use Rattle.sync_model.specs.declared.message.Key.{Key}
+use Rattle.sync_model.specs.declared.message.Marker.{Marker}
 use Rattle.sync_model.specs.declared.message.Request.{Request}
 use Rattle.sync_model.specs.declared.message.Verdict.{Verdict}
 use Rattle.sync_model.specs.declared.message.Verdict.TheVariants.{Committed as CommitAnswers, Updated, Refused}
@@ -32,8 +34,10 @@ use Rattle.sync_model.specs.Edits.{edit_kind, edit_value}
 use Rattle.sync_model.specs.Settings.{Setting, IsSetting, decided_by, nigori_hash, names_of}
 use Rattle.sync_model.specs.History.{last_version, last_write, write_at, IsBased}
 use Rattle.sync_model.specs.Conflicts.{row_of, choice_of}
+use Rattle.sync_model.specs.Servers.{wanted_writes, updates_of}
 use Rattle.sync_model.specs.Sides.{Side, state_at, is_caught_up}
-use Rattle.sync_model.specs.Clients.{Client, side_of}
+use Rattle.sync_model.specs.Clients.{Client, side_of, opens}
+use Rattle.sync_model.specs.Receiving.{batch_of}
 use Rattle.sync_model.specs.Changes.{edit_hash, pass_value}
 use Rattle.sync_model.specs.Worlds.{World, opening, client_at, pass_at, outcome_at, stepped, run, world_of}
 use Rattle.sync_model.specs.Fates.{fate_of}
@@ -244,3 +248,15 @@ abbrev pub EveryCurrentClientHasTheKeys : Type 0
 EveryCurrentClientHasTheKeys = (setting : Setting) → IsSetting setting → (schedule : Schedule) (client : ℕ)
     → KnowsNewestKeys setting (world_of setting schedule).history (client_at (world_of setting schedule).clients client)
     → IsTrue (has_names (names_of setting (client_at (world_of setting schedule).clients client).bag) (locks_of (world_of setting schedule).history))
+
+-- the batch of a type that a delivery gives to one who asks with these marks
+abbrev pub batch_given : List (Entry Content) → Kind → ℕ → List Marker → Batch
+batch_given history kind asked marks = batch_of kind asked (updates_of history marks (wanted_writes marks history history))
+
+-- a client that knows the newest write of the profile's keys opens every batch that a delivery may give it
+abbrev pub EveryCurrentClientOpens : Type 0
+EveryCurrentClientOpens = (setting : Setting) → IsSetting setting → (schedule : Schedule) (client : ℕ)
+    → KnowsNewestKeys setting (world_of setting schedule).history (client_at (world_of setting schedule).clients client)
+    → (kind : Kind) (asked : ℕ) (marks : List Marker)
+    → IsTrue (opens setting (client_at (world_of setting schedule).clients client).bag
+    (batch_given (world_of setting schedule).history kind asked marks))

@@ -1,5 +1,5 @@
 //! What is proved of every run, by the definitions alone.
-ghost use Rattle.sync_model.specs.Laws.{EveryEventKeepsBased, EveryWriteIsBased, EveryEntryWritesOnce, EveryCaughtUpSideAgrees, EveryFateIsTrue, NoLockIsLost, EveryCurrentClientHasTheKeys};
+ghost use Rattle.sync_model.specs.Laws.{EveryEventKeepsBased, EveryWriteIsBased, EveryEntryWritesOnce, EveryCaughtUpSideAgrees, EveryFateIsTrue, NoLockIsLost, EveryCurrentClientHasTheKeys, EveryCurrentClientOpens};
 
 /// Whatever a schedule delivers, and however often: the server replaced an entity only by a commit that
 /// was based on the version that it had. So a repeated commit acts at most once for each entry.
@@ -21,10 +21,11 @@ pub fn every_caught_up_side_agrees()
 
 /// Whatever is delivered and lost, and however many passphrases are chosen: a key that seals a write of
 /// the server's history is among the keys of the newest write of the profile's keys, and a client that
-/// knows that write has it.
+/// knows that write has it, and opens every batch that the server gives it.
 pub fn no_key_is_lost()
     ensures history { NoLockIsLost }
     ensures clients { EveryCurrentClientHasTheKeys }
+    ensures batches { EveryCurrentClientOpens }
 {}
 
 /// Whatever is delivered and lost, and however often: an edit that was acknowledged to its user stands on its
