@@ -1,0 +1,94 @@
+-- A change of a key is taken back by what there was before.
+use Rattle.std.proofs.Common.{◌≡◌, ℕ, Bool, true, false, cond, List, [], ◌∷◌, Option, Some, None, refl, sym, ap, ◌∙◌, subst}
+use Rattle.std.specs.Prelude.{is_some, IsTrue, unwrap_or}
+use Rattle.std.specs.Option.{IsSome}
+use Rattle.std.specs.BTreeMap.{is_at, insert_entry}
+use Rattle.std.specs.Cmp.Lexicographic.{slice_cmp}
+use Rattle.std.specs.Map.{lookup, remove_entry}
+use Rattle.std.specs.Ordering.{nat_cmp, is_eq, match_ordering}
+use Rattle.std.specs.declared.cmp.Ordering.{Ordering}
+use Rattle.std.specs.declared.cmp.Ordering.TheVariants.{Less, Equal, Greater}
+use Rattle.entity_tracker.specs.Tracked.{Tracked}
+use Rattle.sync_model.specs.declared.state.KeyState.{KeyState}
+use Rattle.sync_model.specs.Sides.{States, has_state, with_state}
+use Rattle.type_processor.specs.Keyed.{hashes_of, found_at, tracker_with, tracker_at}
+use Rattle.type_processor.specs.declared.journal.Change.{Change}
+use Rattle.type_processor.specs.Journals.{IsChange, LeadsBack, LeadsBackBy}
+use Rattle.type_processor.proofs.KeyedEntries.{ties_itself}
+use Rattle.type_processor.proofs.EntryChanges.{undo_new, undo_kept}
+
+has_by : (hash : List ℕ) (state : KeyState) (e : List ℕ × KeyState) (es rest : States) (o : Ordering)
+    → slice_cmp nat_cmp hash e.0 ≡ o → is_some (lookup (is_at (slice_cmp nat_cmp hash)) rest) ≡ true
+    → is_some (lookup (is_at (slice_cmp nat_cmp hash)) (match_ordering o ((hash, state) ∷ e ∷ es) ((e.0, state) ∷ es) (e ∷ rest))) ≡ true
+has_by hash state e es rest Less is has = rw (ties_itself hash) refl
+has_by hash state e es rest Equal is has = rw is refl
+has_by hash state e es rest Greater is has = rw is has
+
+-- a key that was put is there
+pub has_put : (states : States) (hash : List ℕ) (state : KeyState) → IsTrue (has_state (with_state states hash state) hash)
+has_put [] hash state = rw (ties_itself hash) refl
+has_put (e ∷ es) hash state = has_by hash state e es (with_state es hash state) (slice_cmp nat_cmp hash e.0) refl (has_put es hash state)
+
+abbrev pub nothing : Option Tracked
+nothing = None
+
+pub no_tracker : (hash : List ℕ) (found : Option KeyState) → nothing ≡ tracker_with hash found → found ≡ None
+no_tracker hash None same = refl
+no_tracker hash (Some state) same = cc
+
+abbrev pub the_tracker : Tracked → Option Tracked
+the_tracker tracker = Some tracker
+
+pub tracker_hash : (hash : List ℕ) (found : Option KeyState) (tracker : Tracked) → the_tracker tracker ≡ tracker_with hash found → tracker.hash ≡ hash
+tracker_hash hash None tracker same = cc
+tracker_hash hash (Some state) tracker same = ap (λ (found : Option Tracked). (unwrap_or found tracker).hash) same
+
+pub tracker_found : (hash : List ℕ) (found : Option KeyState) (tracker : Tracked) → the_tracker tracker ≡ tracker_with hash found → found ≡ Some tracker.state
+tracker_found hash None tracker same = cc
+tracker_found hash (Some state) tracker same = sym (ap (λ (found : Option Tracked). Some (unwrap_or found tracker).state) same)
+
+-- a key that was new is taken out again
+pub back_to_none : (change : Change) (before after new : States) → change.before ≡ None
+    → new ≡ remove_entry (is_at (slice_cmp nat_cmp change.hash.bytes)) after → IsChange change before after → new ≡ before
+back_to_none change before after new none is_new change_is =
+    is_new ∙ ap (remove_entry (is_at (slice_cmp nat_cmp change.hash.bytes))) change_is.put
+    ∙ undo_new (slice_cmp nat_cmp) before change.hash.bytes change_is.state (ties_itself change.hash.bytes)
+    (no_tracker change.hash.bytes (found_at before change.hash.bytes) (sym none ∙ change_is.before_was))
+
+-- a key that had a tracker has it again
+pub back_to_some : (change : Change) (before after new : States) (tracker : Tracked) → change.before ≡ Some tracker
+    → (IsTrue (has_state after tracker.hash) → new ≡ with_state after tracker.hash tracker.state) → IsChange change before after → new ≡ before
+back_to_some change before after new tracker some is_new change_is =
+    let told : the_tracker tracker ≡ tracker_at before change.hash.bytes = sym some ∙ change_is.before_was in
+    let hash : tracker.hash ≡ change.hash.bytes = tracker_hash change.hash.bytes (found_at before change.hash.bytes) tracker told in
+    let found : found_at before change.hash.bytes ≡ Some tracker.state = tracker_found change.hash.bytes (found_at before change.hash.bytes) tracker told in
+    is_new (rw (hash, change_is.put) (has_put before change.hash.bytes change_is.state))
+    ∙ ap (λ (key : List ℕ). with_state after key tracker.state) hash
+    ∙ ap (λ (states : States). with_state states change.hash.bytes tracker.state) change_is.put
+    ∙ undo_kept (slice_cmp nat_cmp) before change.hash.bytes change_is.state tracker.state
+    (ap hashes_of (sym change_is.put) ∙ change_is.kept (rw some refl)) found
+
+-- one change less leads back
+pub goes_back : (change : Change) (rest all : List Change) (first now new : States) → all ≡ change ∷ rest
+    → ((before : States) → IsChange change before now → new ≡ before) → LeadsBack all first now → LeadsBack rest first new
+goes_back change rest all first now new is back leads =
+    let by : LeadsBackBy change (LeadsBack rest first) now = subst (λ (changes : List Change). LeadsBack changes first now) is leads in
+    subst (LeadsBack rest first) (sym (back by.before by.change_is)) by.rest_leads
+
+-- one change more leads back
+pub goes_on : (change : Change) (rest all : List Change) (first now new : States) → all ≡ change ∷ rest
+    → IsChange change now new → LeadsBack rest first now → LeadsBack all first new
+goes_on change rest all first now new is change_is leads =
+    subst (λ (changes : List Change). LeadsBack changes first new) (sym is) (record { before = now; change_is = change_is; rest_leads = leads })
+
+has_tracker : (hash : List ℕ) (found : Option KeyState) → IsTrue (is_some found) → IsSome (tracker_with hash found)
+has_tracker hash None has = cc
+has_tracker hash (Some state) has = refl
+
+-- a key that is there had a tracker
+pub had_tracker : (states : States) (hash : List ℕ) (told : Option Tracked) → told ≡ tracker_at states hash → IsTrue (has_state states hash) → IsSome told
+had_tracker states hash told is has = subst IsSome (sym is) (has_tracker hash (found_at states hash) has)
+
+-- before the first change
+pub at_start : (changes : List Change) (states : States) → changes ≡ [] → LeadsBack changes states states
+at_start changes states none = subst (λ (changes : List Change). LeadsBack changes states states) (sym none) refl

@@ -1,0 +1,10 @@
+mod AckLemmas
+mod EntryChanges
+mod JournalLemmas
+mod KeyedEntries
+mod UpdateLemmas
+mod StableSorts
+mod OfferLemmas
+mod Soundness
+mod OffersFit
+mod Mailboxes

@@ -1,0 +1,8 @@
+use Rattle.std.proofs.Common.{◌∙◌, ap, sym}
+use Rattle.sync_model.specs.Sides.{States, has_state}
+use Rattle.type_processor.proofs.KeyedEntries.{found_some}
+use Rattle.type_processor.proofs.trackers.Trackers.contains.Goals as goal
+
+pub returns : goal.returns
+returns c =
+    rw (← c.self.view_is) (c.contains_key.ensures ∙ found_some c.self.inside.map.entries c.args.hash.now c.self.invariant)

@@ -1,0 +1,7 @@
+use Rattle.std.proofs.Common.{◌∙◌}
+use Rattle.type_processor.proofs.KeyedEntries.{found_tracker}
+use Rattle.type_processor.proofs.trackers.Trackers.get.Goals as goal
+
+pub returns : goal.returns
+returns c =
+    rw (← c.self.view_is) (c.get.ensures.value ∙ found_tracker c.self.inside.map.entries c.args.hash.now c.self.invariant)

@@ -1,0 +1,9 @@
+pub mod Processed
+pub mod Fits
+pub mod Edits
+pub mod Turns
+pub mod Keyed
+pub mod Processors
+pub mod Journals
+pub mod Orders
+pub mod Mail
