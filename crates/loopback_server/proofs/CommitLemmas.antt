@@ -1,6 +1,8 @@
 -- The entries of a commit, one after another.
 use Rattle.std.proofs.Common.{◌≡◌, ℕ, zero, suc, ◌<◌, arith, List, [], ◌∷◌, ◌++◌, length, take, drop, get_or, map, Option, Some, None, refl, sym, ap, subst, ◌∙◌, append_assoc}
 use Rattle.std.proofs.lemmas.List.{append-nil}
+use Rattle.std.specs.List.{AllByRecursion}
+use Rattle.sync_messages.specs.Laws.{IsAnswer}
 use Rattle.sync_specifics.specs.declared.specifics.Specifics.{Specifics}
 use Rattle.sync_messages.specs.declared.message.EntryAnswer.{EntryAnswer}
 use Rattle.sync_messages.specs.declared.message.Outcome.TheVariants.{Invalid}
@@ -94,3 +96,13 @@ pub end_history : (history all : List (Entry (Option Specifics))) (candidates re
     → committed is_invalid history (map entry_read candidates) ≡ all → history ≡ all
 unfolding committed
 end_history history all candidates rest same_rest dropped same = rw (nil_from_drop candidates (same_rest ∙ dropped)) at same
+
+-- one more answer, which can be said
+all_more : (answers : List EntryAnswer) (answer : EntryAnswer) → AllByRecursion IsAnswer answers → IsAnswer answer → AllByRecursion IsAnswer (answers ++ answer ∷ [])
+all_more [] answer all one = (one, tt)
+all_more (first ∷ rest) answer all one = (all.0, all_more rest answer all.1 one)
+
+pub step_sayable : (before pushed : List EntryAnswer) (answer : EntryAnswer) → pushed ≡ before ++ answer ∷ [] → AllByRecursion IsAnswer before → IsAnswer answer
+    → AllByRecursion IsAnswer pushed
+step_sayable before pushed answer is all one =
+    subst (λ (answers : List EntryAnswer). AllByRecursion IsAnswer answers) (sym is) (all_more before answer all one)

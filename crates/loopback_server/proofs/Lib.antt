@@ -2,4 +2,8 @@ mod Ties
 mod StoreLemmas
 mod CommitLemmas
 mod PageLemmas
+mod WantedVersions
+mod IndexHits
 mod Based
+mod Places
+mod TakingBack

@@ -14,7 +14,7 @@ use Rattle.loopback_server.specs.declared.write.EntityKey.{EntityKey}
 use Rattle.loopback_server.specs.Indexes.{is_key, indexed, version_at, HasPlace}
 use Rattle.loopback_server.specs.contracts.write.EntityKeyOrd.TheImpl.{cmp-value}
 
-abbrev key_with : Kind → TagHash → EntityKey
+abbrev pub key_with : Kind → TagHash → EntityKey
 key_with kind hash = record { kind = kind; hash = hash }
 
 by_kinds : (k l : Kind) (h g : TagHash) → is_at (cmp-value.it (key_with k h)) (key_with l g) ≡ is_key (key_with k h) (key_with l g)
@@ -28,7 +28,7 @@ by_kinds Password Nigori h g = refl
 by_kinds Password Preference h g = refl
 by_kinds Password Password h g = is_eq-slice_cmp h.bytes g.bytes
 
-ties : (a b : EntityKey) → is_at (cmp-value.it a) b ≡ is_key a b
+pub ties : (a b : EntityKey) → is_at (cmp-value.it a) b ≡ is_key a b
 ties a b = by_kinds a.kind b.kind a.hash b.hash
 
 -- what a map tells at a key is what the index has there
@@ -57,7 +57,7 @@ one_by Password Nigori h g same = absurd (true≢false (sym same))
 one_by Password Preference h g same = absurd (true≢false (sym same))
 one_by Password Password h g same = one_hash Password h g same
 
-one_key : (a b : EntityKey) → is_key a b ≡ true → a ≡ b
+pub one_key : (a b : EntityKey) → is_key a b ≡ true → a ≡ b
 one_key a b same = one_by a.kind b.kind a.hash b.hash same
 
 -- a key is itself

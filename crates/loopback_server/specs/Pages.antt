@@ -1,11 +1,12 @@
 -- What is gathered of the answer to a get-updates.
-use Rattle.std.specs.Prelude.{◌≡◌, ℕ, ◌-◌, ◌==◌, max, if◌then◌else◌, List, [], ◌∷◌, ◌++◌, length, take, map, Option}
+use Rattle.std.specs.Prelude.{◌≡◌, ℕ, ◌-◌, ◌==◌, max, if◌then◌else◌, List, [], ◌∷◌, ◌++◌, length, take, map, Option, Some, None}
 use Rattle.client_tags.specs.declared.Kind.{Kind}
 use Rattle.client_tags.specs.declared.Kind.TheVariants.{Nigori, Preference, Password}
 use Rattle.sync_specifics.specs.declared.specifics.Specifics.{Specifics}
 use Rattle.sync_model.specs.declared.message.Entry.{Entry}
 use Rattle.sync_model.specs.declared.message.Marker.{Marker}
-use Rattle.sync_model.specs.Servers.{mark_of, new_marker, wanted_writes, last_given, MAX_UPDATES}
+use Rattle.sync_model.specs.History.{write_at}
+use Rattle.sync_model.specs.Servers.{mark_of, new_marker, as_given, wanted_writes, last_given, MAX_UPDATES}
 use Rattle.loopback_server.specs.declared.asked.Asked.{Asked}
 use Rattle.loopback_server.specs.declared.page.Page.{Page}
 use Rattle.loopback_server.specs.Messages.{told_entity}
@@ -47,3 +48,16 @@ from_the_start = record { kind = Nigori; mark = 0 } ∷ record { kind = Preferen
 -- the last writes of all keys by ascending version: what one wants that has seen nothing
 abbrev pub last_writes : List (Entry (Option Specifics)) → List (Entry (Option Specifics))
 last_writes history = wanted_writes from_the_start history history
+
+-- the versions of the wanted writes, which ascend
+abbrev pub wanted_versions : List Marker → List (Entry (Option Specifics)) → List ℕ
+wanted_versions marks history = map (λ entry. entry.version) (wanted_writes marks history history)
+
+-- what a reply gives of a version, which may have a write
+abbrev pub given : ℕ → Option (Entry (Option Specifics)) → List (Entry (Option Specifics))
+given version None = []
+given version (Some write) = as_given version write ∷ []
+
+-- what a reply gives of a version of a history
+abbrev pub given_at : List (Entry (Option Specifics)) → ℕ → List (Entry (Option Specifics))
+given_at history version = given version (write_at history version)

@@ -7,6 +7,7 @@ mod index;
 mod page;
 mod server;
 mod store;
+mod taken_back;
 mod updates;
 mod write;
 

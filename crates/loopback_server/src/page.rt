@@ -1,6 +1,9 @@
 //! The answer to a get-updates: the first of the wanted writes, and how many others there are.
 ghost use Rattle.std.specs.Prelude.{◌≡◌, ◌==◌, ◌+◌, ◌<◌, ◌≤◌, ◌^◌, ◌∷◌, ◌++◌, [], List as Sequence, Option as Maybe, map, max, if◌then◌else◌, length, IfOk, OnOk};
+ghost use Rattle.std.specs.List.{AllByRecursion};
+ghost use Rattle.client_tags.specs.Hashes.{IsHash};
 ghost use Rattle.sync_specifics.specs.declared.specifics.Specifics.{Specifics as AnySpecifics};
+ghost use Rattle.sync_messages.specs.Laws.{IsEntity, IsMarker};
 ghost use Rattle.sync_model.specs.declared.message.Entry.{Entry as AnyEntry};
 ghost use Rattle.sync_model.specs.Servers.{as_given, new_marker};
 ghost use Rattle.loopback_server.specs.Messages.{told_entity, told_marker};
@@ -10,7 +13,7 @@ ghost use Rattle.loopback_server.specs.Stores.{entry_of};
 use crate::asked::Asked;
 use crate::candidate::{copied, id_of, is_empty};
 use crate::write::Write;
-use client_tags::Kind;
+use client_tags::{Kind, TagHash};
 use progress_marker::Mark;
 use std::alloc::Global;
 use sync_messages::{Entity, Marker};
@@ -27,33 +30,41 @@ pub(crate) struct Page {
     pub(crate) last: u64,
 }
 
+// A copy of the bytes of a hash, as a hash.
+fn hash_of(bytes: &[u8; 20]) -> TagHash
+    ensures same { result.bytes ≡ bytes.now }
+    ensures is_hash { IsHash bytes.now }
+{
+    let mut copy = [0; 20];
+    copy.copy_from_slice(bytes);
+    TagHash { bytes: copy }
+}
+
 // A write of this version as an entity.
 fn told_entity(alloc: Global, write: &Write, version: u64) -> Result<Entity, NoMemory>
-    ensures { IfOk result (λ entity. entity ≡ told_entity (as_given version (entry_of write.now))) }
+    ensures entity { IfOk result (λ entity. entity ≡ told_entity (as_given version (entry_of write.now))) }
+    ensures sayable { IfOk result IsEntity }
 {
     Ok(Entity {
         id: id_of(alloc, &write.key)?,
         version: version.cast_signed(),
         deleted: is_empty(&write.specifics),
         specifics: Some(copied(&write.specifics)?),
-        hash: Some(write.key.hash),
+        hash: Some(hash_of(&write.key.hash.bytes)),
     })
 }
 
-/// Adds a write of this version as an entity, if it is the last of its key.
-pub(crate) fn push_if(
+/// Adds a write of this version as an entity.
+pub(crate) fn push_entity(
     entities: &mut Vec<Entity>,
-    is_last: bool,
     write: &Write,
     version: u64,
 ) -> Result<(), NoMemory>
-    ensures { OnOk result (entities.new.items ≡ entities.old.items
-        ++ map told_entity (if is_last then as_given version (entry_of write.now) ∷ [] else [])) }
+    ensures { OnOk result (entities.new.items
+        ≡ entities.old.items ++ map told_entity (as_given version (entry_of write.now) ∷ [])) }
 {
-    if is_last {
-        let entity = told_entity(*entities.allocator(), write, version)?;
-        entities.push(entity)?;
-    }
+    let entity = told_entity(*entities.allocator(), write, version)?;
+    entities.push(entity)?;
     Ok(())
 }
 
@@ -62,6 +73,7 @@ impl Page {
     pub(crate) fn new(alloc: Global) -> Page
         ensures page { IsPage result [] }
         ensures remaining { result.remaining ≡ 0 }
+        ensures none { result.entries.items ≡ [] }
     {
         Page {
             entries: Vec::new(alloc),
@@ -76,31 +88,13 @@ impl Page {
         ensures page { OnOk result ((wanted : Sequence (AnyEntry (Maybe AnySpecifics))) → IsPage self.old wanted
             → IsPage self.new (wanted ++ as_given version (entry_of write.now) ∷ [])) }
         ensures few { OnOk result (self.new.remaining ≤ self.old.remaining + 1) }
+        ensures sayable { OnOk result (AllByRecursion IsEntity self.old.entries.items → AllByRecursion IsEntity self.new.entries.items) }
     {
         if self.entries.as_slice().len() < MAX_UPDATES {
             self.entries.push(told_entity(alloc, write, version)?)?;
             self.last = version;
         } else {
             self.remaining += 1;
-        }
-        Ok(())
-    }
-
-    /// One more write, of this version, may be wanted.
-    pub(crate) fn add_if(
-        &mut self,
-        alloc: Global,
-        is_wanted: bool,
-        write: &Write,
-        version: u64,
-    ) -> Result<(), NoMemory>
-        requires fits { self.old.remaining + 1 < 2 ^ 64 }
-        ensures page { OnOk result ((wanted : Sequence (AnyEntry (Maybe AnySpecifics))) → IsPage self.old wanted
-            → IsPage self.new (wanted ++ (if is_wanted then as_given version (entry_of write.now) ∷ [] else []))) }
-        ensures few { OnOk result (self.new.remaining ≤ self.old.remaining + 1) }
-    {
-        if is_wanted {
-            self.add(alloc, write, version)?;
         }
         Ok(())
     }
@@ -124,8 +118,9 @@ impl Page {
         mark: Option<u64>,
         version: u64,
     ) -> Result<(), NoMemory>
-        ensures { OnOk result (marks.new.items ≡ marks.old.items
+        ensures marks { OnOk result (marks.new.items ≡ marks.old.items
             ++ map told_marker (new_marker kind mark (next_mark version self.now.remaining self.now.last))) }
+        ensures sayable { OnOk result (AllByRecursion IsMarker marks.old.items → AllByRecursion IsMarker marks.new.items) }
     {
         if let Some(mark) = mark {
             marks.push(Marker {
@@ -145,8 +140,9 @@ impl Page {
         asked: &Asked,
         version: u64,
     ) -> Result<List<Marker>, NoMemory>
-        ensures { IfOk result (λ marks. marks
+        ensures marks { IfOk result (λ marks. marks
             ≡ map told_marker (markers_after asked.now (next_mark version self.now.remaining self.now.last))) }
+        ensures sayable { IfOk result (λ marks. AllByRecursion IsMarker marks) }
     {
         let mut marks = Vec::new(alloc);
         self.push_new_mark(&mut marks, Kind::Nigori, asked.nigori, version)?;

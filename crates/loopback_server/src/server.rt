@@ -1,6 +1,7 @@
 //! The server.
-ghost use Rattle.std.specs.Prelude.{◌≡◌, [], length, map, not, IfOk, OnOk, OnErr};
+ghost use Rattle.std.specs.Prelude.{◌≡◌, ◌≤◌, [], length, drop, map, not, IfOk, OnOk, OnErr};
 ghost use Rattle.std.specs.Str.{bytes_eq};
+ghost use Rattle.sync_messages.specs.Laws.{IsSayable, IsSayableReply};
 ghost use Rattle.sync_model.specs.History.{IsBased};
 ghost use Rattle.sync_model.specs.Servers.{is_foreign, verdict_on, history_after};
 ghost use Rattle.loopback_server.specs.Entries.{is_invalid};
@@ -63,6 +64,7 @@ fn answer(store: &mut Store, request: &Request) -> Result<Reply, NoMemory>
         ≡ history_after is_invalid (history_of store.old) (call_in request.now)) }
     ensures err { OnErr result (history_of store.new ≡ history_of store.old) }
     ensures indexed { IsIndexed store.new }
+    ensures sayable { IfOk result IsSayableReply }
 {
     match request {
         Request::Commit(commit) => Ok(Reply::Committed(store.commit(commit.entries.as_slice())?)),
@@ -82,7 +84,8 @@ impl Server {
     }
 
     /// Handles a message. A commit takes time that grows with its bytes and, for each entity, with the logarithm of the
-    /// number of keys; a get-updates goes through all writes.
+    /// number of keys; a get-updates takes one pass over the keys, and time that grows with the bytes of what is told and,
+    /// for each key that is wanted, with the logarithm of their number.
     #[tactic(auto, unfolding(crate::specs::Messages::reply_for, crate::specs::Messages::history_for, sync_model::specs::Servers::reply_to, sync_model::specs::Servers::history_served))]
     pub fn handle(&mut self, request: &ToServer) -> Result<FromServer, NoMemory>
         ensures reply { IfOk result (λ reply. reply ≡ reply_for self.old.birthday self.old.history request.now) }
@@ -90,6 +93,7 @@ impl Server {
         ensures birthday { self.new.birthday ≡ self.old.birthday }
         ensures err { OnErr result (self.new.history ≡ self.old.history) }
         ensures versions { IsBased self.old.history → IsBased self.new.history }
+        ensures sayable { IfOk result IsSayable }
     {
         let birthday = self.birthday.copy()?;
         if is_foreign(&self.birthday, &request.birthday) {
@@ -105,6 +109,16 @@ impl Server {
         })
     }
 
+    /// Takes back the last writes, as if they had not been made, for a caller that could not keep the reply to them. It
+    /// takes no memory, and for each write time that grows with the logarithm of the number of keys.
+    pub fn take_back(&mut self, count: usize)
+        requires few { count ≤ length self.old.history }
+        requires based { IsBased self.old.history }
+        ensures { self.new ≡ record self.old { history = drop count self.old.history } }
+    {
+        self.store.take_back(count);
+    }
+
     /// The version of the last write, 0 without one.
     pub fn counter(&self) -> u64
         ensures { result ≡ length self.now.history }
@@ -112,7 +126,8 @@ impl Server {
         self.store.version()
     }
 
-    /// The last writes of all keys, deletions among them, by ascending version. It goes through all writes.
+    /// The last writes of all keys, deletions among them, by ascending version. It takes time that grows
+    /// with their bytes and, for each, with the logarithm of the number of keys.
     pub fn entities(&self) -> Result<List<Entity>, NoMemory>
         ensures { IfOk result (λ entities. entities ≡ map told_entity (last_writes self.now.history)) }
     {

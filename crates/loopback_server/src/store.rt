@@ -1,5 +1,7 @@
 //! The writes of a server, and their index.
 ghost use Rattle.std.specs.Prelude.{◌≡◌, ◌+◌, ◌<◌, ◌≤◌, ◌++◌, ◌∷◌, ◌||◌, ◌&&◌, ◌==◌, [], nat_le, if◌then◌else◌, length, map, vec_len, vec_capacity, IfOk, OnOk, OnErr};
+ghost use Rattle.std.specs.List.{AllByRecursion};
+ghost use Rattle.sync_messages.specs.Laws.{IsAnswer};
 ghost use Rattle.sync_model.specs.History.{last_version, answer_to, history_with, committed, answers_to};
 ghost use Rattle.loopback_server.specs.declared.write.EntityKey.{EntityKey as AnyKey};
 ghost use Rattle.loopback_server.specs.Candidates.{entry_read, HasId, HasItsPlace, HaveIds, HavePlaces};
@@ -72,7 +74,8 @@ fn make_its_place(index: &mut Index, candidate: &Option<Candidate>) -> Result<()
 
 // What is told of an entry that was not stored.
 fn refusal(alloc: Global, outcome: Outcome) -> EntryAnswer
-    ensures { result ≡ told_refusal outcome }
+    ensures told { result ≡ told_refusal outcome }
+    ensures sayable { IsAnswer result }
 {
     EntryAnswer {
         outcome,
@@ -83,7 +86,8 @@ fn refusal(alloc: Global, outcome: Outcome) -> EntryAnswer
 
 // What is told of an entry of this name.
 fn told(alloc: Global, id: Octets, answer: Answer) -> EntryAnswer
-    ensures { result ≡ told_with id answer }
+    ensures told { result ≡ told_with id answer }
+    ensures sayable { IsAnswer result }
 {
     match answer {
         Answer::Success(version) => EntryAnswer {
@@ -186,6 +190,7 @@ impl Store {
         ensures kept { (key : AnyKey) → HasPlace self.old.index.entries key → HasPlace self.new.index.entries key }
         ensures room { vec_capacity self.new.writes ≡ vec_capacity self.old.writes }
         ensures longer { vec_len self.new.writes ≤ vec_len self.old.writes + 1 }
+        ensures sayable { IsAnswer result }
     {
         let alloc = self.alloc();
         let Some(candidate) = candidate else {
@@ -223,6 +228,7 @@ impl Store {
         ensures history { history_of self.new
             ≡ committed is_invalid (history_of self.old) (map entry_read candidates.items) }
         ensures indexed { IsIndexed self.new }
+        ensures sayable { AllByRecursion IsAnswer answers.old.items → AllByRecursion IsAnswer answers.new.items }
     {
         'candidates: while let Some(candidate) = candidates.pop_front() {
             answers.push_reserved(self.answer_read(candidate));
@@ -239,6 +245,7 @@ impl Store {
             ≡ committed is_invalid (history_of self.old) (map entry_in entities.now)) }
         ensures err { OnErr result (history_of self.new ≡ history_of self.old) }
         ensures indexed { IsIndexed self.new }
+        ensures sayable { IfOk result (λ answers. AllByRecursion IsAnswer answers) }
     {
         let candidates = candidates_of(self.alloc(), entities)?;
         self.make_room(&candidates)?;

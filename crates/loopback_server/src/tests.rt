@@ -1,3 +1,6 @@
+ghost use Rattle.std.specs.Prelude.{IfOk};
+ghost use Rattle.sync_model.specs.History.{IsBased};
+
 use super::*;
 use client_tags::{Kind, TagHash};
 use progress_marker::Mark;
@@ -16,7 +19,9 @@ mod updates;
 // The name of the preference whose hash is zero.
 const NAME: &[u8] = b"37702|AAAAAAAAAAAAAAAAAAAAAAAAAAA=";
 
-fn server(alloc: Global) -> Result<Server, NoMemory> {
+fn server(alloc: Global) -> Result<Server, NoMemory>
+    ensures { IfOk result (λ server. IsBased server.history) }
+{
     Ok(Server::new(alloc, Octets::from_slice(alloc, b"here")?))
 }
 
@@ -64,7 +69,9 @@ fn commit_of(alloc: Global, entity: Entity) -> Result<ToServer, NoMemory> {
     })
 }
 
-fn reply_to(server: &mut Server, message: &ToServer) -> Result<Reply, NoMemory> {
+fn reply_to(server: &mut Server, message: &ToServer) -> Result<Reply, NoMemory>
+    ensures { IsBased server.old.history → IsBased server.new.history }
+{
     let FromServer {
         birthday: _birthday,
         reply,
@@ -77,7 +84,9 @@ fn commit(
     alloc: Global,
     server: &mut Server,
     entity: Entity,
-) -> Result<Option<EntryAnswer>, NoMemory> {
+) -> Result<Option<EntryAnswer>, NoMemory>
+    ensures { IsBased server.old.history → IsBased server.new.history }
+{
     match reply_to(server, &commit_of(alloc, entity)?)? {
         Reply::Committed(answers) => Ok(answers.into_vec().pop()),
         _ => Ok(None),

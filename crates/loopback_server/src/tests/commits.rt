@@ -71,3 +71,22 @@ fn another_birthday_is_refused(rt: HostRuntime) -> Result<(), Fail> {
     assert_eq!(rt; server.counter(), 0);
     Ok(())
 }
+
+#[test]
+fn writes_are_taken_back(rt: HostRuntime) -> Result<(), Fail> {
+    let alloc = rt.alloc();
+    let mut server = server(alloc)?;
+    commit(alloc, &mut server, preference(alloc, 0, 0)?)?;
+    commit(alloc, &mut server, preference(alloc, 0, 1)?)?;
+    commit(alloc, &mut server, password(alloc, 1, 0)?)?;
+    let last_two = (server.counter() as usize).min(2);
+    server.take_back(last_two);
+    assert_eq!(rt; server.counter(), 1);
+    // The preference has version 1 again, and the password has none.
+    let answer = commit(alloc, &mut server, preference(alloc, 0, 1)?)?;
+    assert!(rt; is_answer(&answer, Outcome::Success, NAME, 2));
+    let entities = server.entities()?;
+    let listed = versions(alloc, entities.as_slice())?;
+    assert_eq!(rt; listed.as_slice(), [2].as_slice());
+    Ok(())
+}

@@ -1,6 +1,6 @@
 use Rattle.std.proofs.Common.{length, arith, ap}
 use Rattle.loopback_server.specs.Stores.{history_of}
-use Rattle.loopback_server.proofs.CommitLemmas.{step_answers, step_history, step_places, step_ids, end_answers, end_history}
+use Rattle.loopback_server.proofs.CommitLemmas.{step_answers, step_history, step_places, step_ids, step_sayable, end_answers, end_history}
 use Rattle.loopback_server.proofs.store.Store.answer_all.Goals as goal
 
 pub candidates-preserved : goal.candidates-preserved
@@ -13,6 +13,8 @@ candidates-preserved c = record {
   answers_room = omega (arith, ap length c.in-Some.ensures.items, c.push_reserved.ensures.len, c.push_reserved.ensures.capacity, c.candidates.invariant.answers_room);
   answers = step_answers c.candidates.answers.items c.push_reserved.new.self.items _ (history_of c.candidates.self) (history_of c.answer_read.new.self) c.candidates.candidates.items c.in-Some.candidate c.pop_front.new.self.items c.answer_read.result
       c.in-Some.ensures.items c.answer_read.ensures.answer c.answer_read.ensures.history c.push_reserved.ensures.items c.candidates.invariant.answers;
+  sayable = λ before. step_sayable c.candidates.answers.items c.push_reserved.new.self.items c.answer_read.result c.push_reserved.ensures.items
+      (c.candidates.invariant.sayable before) c.answer_read.ensures.sayable;
   history = step_history _ (history_of c.candidates.self) (history_of c.answer_read.new.self) c.candidates.candidates.items c.in-Some.candidate c.pop_front.new.self.items
       c.in-Some.ensures.items c.answer_read.ensures.history c.candidates.invariant.history;
 }

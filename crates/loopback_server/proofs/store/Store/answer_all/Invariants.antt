@@ -1,4 +1,6 @@
 use Rattle.std.proofs.Common.{◌≡◌, ◌+◌, ◌≤◌, ◌++◌, length, map, vec_len, vec_capacity}
+use Rattle.std.specs.List.{AllByRecursion}
+use Rattle.sync_messages.specs.Laws.{IsAnswer}
 use Rattle.sync_model.specs.History.{committed}
 use Rattle.loopback_server.specs.Candidates.{entry_read, HaveIds, HavePlaces}
 use Rattle.loopback_server.specs.Entries.{is_invalid}
@@ -15,6 +17,7 @@ invariant-candidates l = record {
   answers_room : vec_len l.answers + length l.candidates.items ≤ vec_capacity l.answers;
   answers : l.answers.items ++ answers_told (history_of l.self) (map entry_read l.candidates.items)
       ≡ l.initial.answers.items ++ answers_told (history_of l.initial.self) (map entry_read l.initial.candidates.items);
+  sayable : AllByRecursion IsAnswer l.initial.answers.items → AllByRecursion IsAnswer l.answers.items;
   history : committed is_invalid (history_of l.self) (map entry_read l.candidates.items)
       ≡ committed is_invalid (history_of l.initial.self) (map entry_read l.initial.candidates.items);
 }

@@ -10,7 +10,7 @@ use Rattle.loopback_server.proofs.store.Store.answer_read.Goals as goal
 
 pub returns-in_default-clause-answer : goal.returns-in_default-clause-answer
 returns-in_default-clause-answer c =
-    c.refusal.ensures ∙ invalid_answer (history_of c.args.self.now)
+    c.refusal.ensures.told ∙ invalid_answer (history_of c.args.self.now)
     ∙ ap (λ (read : Option Candidate). told_answer (entry_read read) (answer_to is_invalid (history_of c.args.self.now) (entry_read read))) (sym c.in_default.is)
 
 pub returns-in_default-clause-history : goal.returns-in_default-clause-history

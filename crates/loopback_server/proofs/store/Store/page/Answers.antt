@@ -1,22 +1,28 @@
-use Rattle.std.proofs.Common.{◌+◌, map, refl, arith, ap}
-use Rattle.loopback_server.specs.Messages.{marker_in}
+use Rattle.std.proofs.Common.{◌++◌, ◌∷◌, [], ◌∙◌, ap, arith}
+use Rattle.std.proofs.lemmas.List.{length-append}
+use Rattle.std.specs.List.{flat_map}
+use Rattle.loopback_server.specs.Pages.{given_at}
 use Rattle.loopback_server.specs.Stores.{history_of}
-use Rattle.loopback_server.proofs.PageLemmas.{page_more, step_wanted, none_wanted}
+use Rattle.loopback_server.proofs.PageLemmas.{page_more, given_more, moved, all_done}
+use Rattle.loopback_server.proofs.WantedVersions.{versions_give}
 use Rattle.loopback_server.proofs.store.Store.page.Goals as goal
 
-pub loop-write-init : goal.loop-write-init
-loop-write-init c = record {
-  version = refl;
-  few = omega (arith, c.new-page.ensures.remaining);
-  page = page_more c.new-page.result _ _ (none_wanted (map marker_in c.args.marks.now) (history_of c.args.self.now)) c.new-page.ensures.page;
+pub loop-version-preserved : goal.loop-version-preserved
+loop-version-preserved c = record {
+  done = c.loop-version.invariant.done ++ c.in-Some.version.now ∷ [];
+  all = moved c.loop-version.invariant.done c.loop-version.version-iterator c.next.new.self c.args.versions.now.keys c.in-Some.version.now
+      c.in-Some.ensures.steps c.loop-version.invariant.all;
+  few = omega (arith, c.in_ok-add_version.ensures.few, c.loop-version.invariant.few, length-append c.loop-version.invariant.done (c.in-Some.version.now ∷ []));
+  page = page_more c.add_version.new.page _ _
+      (given_more (given_at (history_of c.args.self.now)) c.loop-version.invariant.done c.in-Some.version.now)
+      (c.in_ok-add_version.ensures.page _ c.loop-version.invariant.page);
+  sayable = c.in_ok-add_version.ensures.sayable c.loop-version.invariant.sayable;
 }
 
-pub loop-write-preserved : goal.loop-write-preserved
-loop-write-preserved c = record {
-  version = ap (λ n. n + 1) c.loop-write.invariant.version;
-  few = omega (arith, c.in_ok-add_if.ensures.few, c.loop-write.invariant.few);
-  page = page_more c.add_if.new.self _ _
-      (step_wanted (map marker_in c.args.marks.now) (history_of c.args.self.now) c.args.self.now.writes.items c.loop-write.write-index (c.loop-write.version + 1) c.write-item.result c.of-asked.result c.is_wanted-is_wanted.result
-      (omega arith) (rw c.as_slice-write-items.ensures.value at c.write-item.is) (ap (λ n. n + 1) c.loop-write.invariant.version) c.of-asked.ensures c.is_wanted-is_wanted.ensures)
-      (c.in_ok-add_if.ensures.page _ c.loop-write.invariant.page);
-}
+pub returns-clause-page : goal.returns-clause-page
+returns-clause-page c = λ marks is.
+    page_more c.loop-version.page _ _
+    (ap (flat_map (given_at (history_of c.args.self.now)))
+    (all_done c.loop-version.invariant.done c.loop-version.version-iterator c.args.versions.now.keys c.in-None.ensures.steps.0 c.loop-version.invariant.all ∙ is)
+    ∙ versions_give marks (history_of c.args.self.now))
+    c.loop-version.invariant.page
