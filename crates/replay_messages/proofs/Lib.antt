@@ -1,0 +1,4 @@
+mod Formed
+mod ToldBack
+mod PlainEntries
+mod SayableReplies

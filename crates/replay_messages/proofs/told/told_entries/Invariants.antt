@@ -1,0 +1,11 @@
+use Rattle.std.proofs.Common.{◌≡◌, map, take, drop}
+use Rattle.std.specs.List.{AllByRecursion}
+use Rattle.replay_messages.specs.Forms.{IsPlain}
+use Rattle.replay_messages.specs.Messages.{entity_of}
+use Rattle.replay_messages.proofs.told.told_entries.Given as goal
+
+abbrev pub invariant-loop-entry : goal.invariant-loop-entry
+invariant-loop-entry l = record {
+  told : l.told.items ≡ map entity_of (take l.entry-index l.entries);
+  plain : AllByRecursion IsPlain (drop l.entry-index l.entries);
+}
