@@ -1,0 +1,9 @@
+mod Effects
+mod EditLemmas
+mod HeldLemmas
+mod SendingLemmas
+mod SideLemmas
+mod MailLemmas
+mod ReplyLemmas
+mod ReadingLemmas
+mod ServedReplies

@@ -1,0 +1,181 @@
+-- What a client of preferences that nothing seals sends.
+use Rattle.std.proofs.Common.{◌≡◌, ℕ, zero, suc, ◌-◌, arith, ◌≤◌, ◌<◌, ◌^◌, Bool, true, false, cond, List, [], ◌∷◌, ◌++◌, length, take, Option, Some, None, refl, sym, ap, ◌∙◌, subst, IsTrue}
+use Rattle.std.proofs.lemmas.Bool.{false≢true}
+use Rattle.std.proofs.lemmas.List.{append-nil}
+use Rattle.std.specs.Prelude.{◌==◌, ◌||◌, count_by}
+use Rattle.std.specs.List.{AllByRecursion}
+use Rattle.client_tags.specs.declared.Kind.{Kind}
+use Rattle.client_tags.specs.declared.Kind.TheVariants.{Nigori, Preference, Password}
+use Rattle.sync_values.specs.declared.value.Value.{Value}
+use Rattle.sync_values.specs.declared.value.Value.TheVariants as values
+use Rattle.run_setting.specs.Hashed.{hashed}
+use Rattle.sync_model.specs.declared.event.EventOutcome.TheVariants.{Void, Done, Requested}
+use Rattle.sync_model.specs.declared.message.Call.TheVariants.{Commit, Updates as AskUpdates}
+use Rattle.sync_model.specs.declared.message.Content.{Content}
+use Rattle.sync_model.specs.declared.message.Entry.{Entry}
+use Rattle.sync_model.specs.declared.message.Marker.{Marker}
+use Rattle.sync_model.specs.declared.message.Offer.{Offer}
+use Rattle.sync_model.specs.Clients.{Client, Effect, side_of, plain_effect, nigori_base, wanted_name}
+use Rattle.sync_model.specs.Offers.{with_all_due, with_reseals, offers_of, reseal_count}
+use Rattle.sync_model.specs.Settings.{nigori_hash}
+use Rattle.sync_model.specs.Sides.{States, state_at}
+use Rattle.sync_model.specs.Values.{is_absent}
+use Rattle.sync_model.specs.Sending.{MAX_ENTRIES, entry_of, sealed, lock_for, drawn_for, drawn_after, is_held_back, lacks_own_lock, offers_if_had, gathered, holding, gathering, is_gather_void, gather_effect, is_busy, seen_marks, ask_of, ask_effect, commit_of, offer_effect}
+use Rattle.type_processor.specs.Fits.{may_have, IsOfferOf}
+use Rattle.replay_messages.specs.Forms.{IsPlain, IsPlainValue}
+use Rattle.replay_client.specs.declared.client.Client.TheInside.{Inside}
+use Rattle.replay_client.specs.Clients.{client_of}
+use Rattle.replay_client.specs.Requests.{marks_with}
+use Rattle.replay_client.specs.Happenings.{HappensAlone}
+use Rattle.replay_client.proofs.Effects.{voided, made, alone_void, alone}
+use Rattle.replay_client.proofs.HeldLemmas.{either_way, none_drawn, all_append}
+
+-- a client without states of keys has no keys
+pub no_base : (client : Client) → client.nigori.states ≡ [] → nigori_base hashed client ≡ values.Absent
+no_base client none = ap (λ (states : States). (state_at states (nigori_hash hashed)).base) none
+
+-- no key is wanted where there are none
+pub plain_wanted : (client : Client) (kind : Kind) → client.nigori.states ≡ [] → wanted_name hashed client kind ≡ None
+plain_wanted client Nigori none = refl
+plain_wanted client Preference none = rw none refl
+plain_wanted client Password none = rw none refl
+
+-- nothing is to be sealed anew where no key is wanted
+no_reseals : (offers : List Offer) (states : States) → with_reseals None offers states ≡ offers
+unfolding with_reseals
+no_reseals offers [] = refl
+no_reseals offers (key ∷ states) = no_reseals offers states
+
+pub no_reseal_count : (states : States) → reseal_count None states ≡ 0
+no_reseal_count [] = refl
+no_reseal_count (key ∷ states) = no_reseal_count states
+
+-- all that is offered of preferences may be sent
+plain_gathered : (client : Client) → client.nigori.states ≡ [] → gathered hashed Preference client ≡ offers_of None (MAX_ENTRIES - length client.held) client.preference.states
+plain_gathered client none = rw none refl
+
+-- what is to be sent of preferences joins what is held
+pub joined : (client : Client) (held : List (Entry Content)) (room : ℕ) (offers : List Offer) → client.nigori.states ≡ [] → client.drawn ≡ 0
+    → room ≡ MAX_ENTRIES - length client.held → offers ≡ offers_of None room client.preference.states → held ≡ client.held ++ sealed Preference None 0 offers
+    → (record client { held = held }) ≡ gathering hashed Preference client None
+joined client held room offers none undrawn is_room is_offers is_held =
+    let all : List Offer = gathered hashed Preference client in
+    let same : offers ≡ all = is_offers ∙ ap (λ n. offers_of None n client.preference.states) is_room ∙ sym (plain_gathered client none) in
+    let after : (record client { held = held }) ≡ holding Preference None all client =
+    (λ i. record client { held = (is_held ∙ (λ j. client.held ++ sealed Preference None (sym undrawn j) (same j))) i; drawn = sym (none_drawn client.drawn all) i }) in
+    after ∙ ap (λ name. holding Preference name all client) (sym (plain_wanted client Preference none))
+
+either_nil : (test : Bool) → cond test [] [] ≡ (let none : List Offer = [] in none)
+either_nil true = refl
+either_nil false = refl
+
+take_nil : (room : ℕ) → take room [] ≡ (let none : List Offer = [] in none)
+take_nil zero = refl
+take_nil (suc room) = refl
+
+-- a type without states has nothing to send
+nothing_gathered : (client : Client) (kind : Kind) → (side_of client kind).states ≡ [] → gathered hashed kind client ≡ []
+unfolding with_all_due with_reseals
+nothing_gathered client kind none =
+    ap (λ (states : States). offers_if_had hashed kind client (offers_of (wanted_name hashed client kind) (MAX_ENTRIES - length client.held) states)) none
+    ∙ ap (offers_if_had hashed kind client) (take_nil (MAX_ENTRIES - length client.held))
+    ∙ either_nil (is_held_back hashed client kind || lacks_own_lock hashed kind client.bag [])
+
+nothing_held : (client : Client) (kind : Kind) (name : Option (List ℕ)) → holding kind name [] client ≡ client
+unfolding sealed drawn_for
+nothing_held client kind name = ap (λ held. record client { held = held }) (append-nil client.held)
+
+idle : (client : Client) (kind : Kind) → (side_of client kind).states ≡ [] → client ≡ gathering hashed kind client None
+idle client kind none =
+    sym (ap (λ offers. holding kind (wanted_name hashed client kind) offers client) (nothing_gathered client kind none) ∙ nothing_held client kind (wanted_name hashed client kind))
+
+pub gather_void : (client : Client) (kind : Kind) → is_gather_void kind client ≡ true → HappensAlone (gather_effect hashed kind client) Void client client
+unfolding gather_effect
+gather_void client kind is =
+    alone_void (gather_effect hashed kind client) client client
+    (voided (is_gather_void kind client) (plain_effect (gathering hashed kind client (side_of client kind).pending) Done) is) refl
+
+pub gather_done : (client : Client) (kind : Kind) (new : Client) → is_gather_void kind client ≡ false → new ≡ gathering hashed kind client (side_of client kind).pending
+    → HappensAlone (gather_effect hashed kind client) Done client new
+unfolding gather_effect
+gather_done client kind new is is_new =
+    alone (gather_effect hashed kind client) (gathering hashed kind client (side_of client kind).pending) Done Done client new
+    (made (is_gather_void kind client) (plain_effect (gathering hashed kind client (side_of client kind).pending) Done) is) refl is_new
+
+pub ask_void : (number event : ℕ) (client : Client) → is_busy client ≡ true → HappensAlone (ask_effect number event client) Void client client
+unfolding ask_effect
+ask_void number event client is =
+    alone_void (ask_effect number event client) client client
+    (voided (is_busy client) (plain_effect (record client { outstanding = Some event }) (Requested number (ask_of client))) is) refl
+
+pub ask_done : (number event : ℕ) (client : Client) (birthday : Option (List ℕ)) (marks : List Marker) → is_busy client ≡ false → birthday ≡ client.birthday → marks ≡ seen_marks client
+    → HappensAlone (ask_effect number event client) (Requested number record { birthday = birthday; call = AskUpdates marks }) client (record client { outstanding = Some event })
+unfolding ask_effect
+ask_done number event client birthday marks is is_birthday is_marks =
+    alone (ask_effect number event client) (record client { outstanding = Some event }) (Requested number (ask_of client))
+    (Requested number record { birthday = birthday; call = AskUpdates marks }) client (record client { outstanding = Some event })
+    (made (is_busy client) (plain_effect (record client { outstanding = Some event }) (Requested number (ask_of client))) is)
+    (λ i. Requested number record { birthday = is_birthday i; call = AskUpdates (is_marks i) }) refl
+
+pub offer_void : (number event : ℕ) (client : Client) → (is_busy client || length client.held == 0) ≡ true → HappensAlone (offer_effect number event client) Void client client
+unfolding offer_effect
+offer_void number event client is =
+    alone_void (offer_effect number event client) client client
+    (voided (is_busy client || length client.held == 0) (plain_effect (record client { held = []; outstanding = Some event }) (Requested number (commit_of client))) is) refl
+
+pub offer_done : (number event : ℕ) (client : Client) (birthday : Option (List ℕ)) (entries rest : List (Entry Content)) → (is_busy client || length client.held == 0) ≡ false
+    → birthday ≡ client.birthday → entries ≡ client.held → rest ≡ []
+    → HappensAlone (offer_effect number event client) (Requested number record { birthday = birthday; call = Commit entries }) client (record client { held = rest; outstanding = Some event })
+unfolding offer_effect
+offer_done number event client birthday entries rest is is_birthday is_entries is_rest =
+    alone (offer_effect number event client) (record client { held = []; outstanding = Some event }) (Requested number (commit_of client))
+    (Requested number record { birthday = birthday; call = Commit entries }) client (record client { held = rest; outstanding = Some event })
+    (made (is_busy client || length client.held == 0) (plain_effect (record client { held = []; outstanding = Some event }) (Requested number (commit_of client))) is)
+    (λ i. Requested number record { birthday = is_birthday i; call = Commit (is_entries i) })
+    (ap (λ held. record client { held = held; outstanding = Some event }) is_rest)
+
+plain_value : (value : Value) → IsTrue (may_have Preference value) → IsPlainValue value
+plain_value values.Absent may = tt
+plain_value (values.Preference preference) may = tt
+plain_value (values.Password password) may = absurd (false≢true may)
+plain_value (values.Nigori nigori) may = absurd (false≢true may)
+
+-- an offer of a preference as an entry
+plain_entry : (offer : Offer) → IsOfferOf Preference offer → IsPlain (entry_of Preference None 0 offer)
+plain_entry offer fits = record {
+  kind = refl;
+  hash = fits.hash;
+  value = plain_value offer.value fits.value;
+  unlocked = refl;
+  version = omega (arith, fits.known);
+}
+
+-- nothing seals what is offered of preferences
+sealed_plain : (offers : List Offer) → AllByRecursion (IsOfferOf Preference) offers → AllByRecursion IsPlain (sealed Preference None 0 offers)
+unfolding sealed
+sealed_plain [] all = tt
+sealed_plain (offer ∷ offers) all =
+    subst (λ lock. AllByRecursion IsPlain (entry_of Preference lock 0 offer ∷ sealed Preference None (drawn_after lock 0) offers))
+    (sym (either_way (is_absent offer.value))) (plain_entry offer all.0, sealed_plain offers all.1)
+
+-- nothing seals what is offered of a type that is preferences
+offers_plain : (kind : Kind) (offers items : List Offer) → kind ≡ Preference → items ≡ offers → AllByRecursion (IsOfferOf kind) offers → AllByRecursion IsPlain (sealed Preference None 0 items)
+offers_plain kind offers items is same all = sealed_plain items (rw (same, ← is) all)
+
+-- what is held and the offers that join it
+pub joined_plain : (held joined : List (Entry Content)) (kind : Kind) (offers items : List Offer) → joined ≡ held ++ sealed Preference None 0 items → AllByRecursion IsPlain held
+    → kind ≡ Preference → items ≡ offers → AllByRecursion (IsOfferOf kind) offers → AllByRecursion IsPlain joined
+joined_plain held joined kind offers items is plain is_kind same all =
+    subst (λ (all : List (Entry Content)). AllByRecursion IsPlain all) (sym is) (all_append IsPlain held (sealed Preference None 0 items) plain (offers_plain kind offers items is_kind same all))
+
+-- nothing of another type is to be sent
+pub idle_kind : (inside : Inside) (kind : Kind) → (kind ≡ Preference → ⊥) → inside.nigori.processor.states ≡ [] → inside.password.processor.states ≡ []
+    → client_of inside ≡ gathering hashed kind (client_of inside) (side_of (client_of inside) kind).pending
+idle_kind inside Nigori other keys logins = idle (client_of inside) Nigori keys
+idle_kind inside Preference other keys logins = absurd (other refl)
+idle_kind inside Password other keys logins = idle (client_of inside) Password logins
+
+-- the marks that a client asks with fit
+pub plain_marks : (first second third : ℕ) (marks : List Marker) → first < 2 ^ 64 → second < 2 ^ 64 → third < 2 ^ 64 → marks ≡ marks_with first second third
+    → AllByRecursion (λ (marker : Marker). marker.mark < 2 ^ 64) marks
+plain_marks first second third marks a b c is = subst (AllByRecursion (λ (marker : Marker). marker.mark < 2 ^ 64)) (sym is) (a, (b, (c, tt)))

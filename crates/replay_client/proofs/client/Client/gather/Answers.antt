@@ -1,0 +1,10 @@
+use Rattle.std.proofs.Common.{sym, ◌∙◌}
+use Rattle.replay_client.proofs.SendingLemmas.{gather_void, gather_done}
+use Rattle.replay_client.proofs.client.Client.gather.Goals as goal
+
+pub returns-then-cannot_gather-clause-happens : goal.returns-then-cannot_gather-clause-happens
+returns-then-cannot_gather-clause-happens c = gather_void c.args.self.now c.args.kind (sym c.cannot_gather.ensures ∙ c.if-cannot_gather.true)
+
+pub returns-clause-happens : goal.returns-clause-happens
+returns-clause-happens c =
+    gather_done c.args.self.now c.args.kind c.take_offers.new.self (sym c.cannot_gather.ensures ∙ c.if-cannot_gather.false) c.in_ok-take_offers.ensures.ok

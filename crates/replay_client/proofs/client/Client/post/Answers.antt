@@ -1,0 +1,24 @@
+use Rattle.std.proofs.Common.{refl}
+use Rattle.client_tags.specs.declared.Kind.TheVariants.{Nigori, Preference, Password}
+use Rattle.replay_client.specs.Clients.{client_of}
+use Rattle.replay_client.proofs.Effects.{if_ok_weaker}
+use Rattle.replay_client.proofs.MailLemmas.{idle_opens, plain_opens, post_happens}
+use Rattle.replay_client.proofs.client.Client.post.Goals as goal
+
+pub returns-in-Nigori-clause-happens : goal.returns-in-Nigori-clause-happens
+returns-in-Nigori-clause-happens c =
+    let side = c.self.inside.nigori in
+    rw (← c.self.view_is, c.in-Nigori.is) (if_ok_weaker c.post.result _ _ (λ outcome posted. post_happens (client_of c.self.inside) Nigori side c.post.new.self side.letter outcome refl refl
+    (idle_opens side.letter c.self.invariant.nigori.letter) posted) c.post.ensures.posted)
+
+pub returns-in-Preference-clause-happens : goal.returns-in-Preference-clause-happens
+returns-in-Preference-clause-happens c =
+    let side = c.self.inside.preference in
+    rw (← c.self.view_is, c.in-Preference.is) (if_ok_weaker c.post-in-Preference.result _ _ (λ outcome posted. post_happens (client_of c.self.inside) Preference side c.post-in-Preference.new.self side.letter outcome refl refl
+    (plain_opens side.letter c.self.invariant.letter) posted) c.post-in-Preference.ensures.posted)
+
+pub returns-in-Password-clause-happens : goal.returns-in-Password-clause-happens
+returns-in-Password-clause-happens c =
+    let side = c.self.inside.password in
+    rw (← c.self.view_is, c.in-Password.is) (if_ok_weaker c.post-in-Password.result _ _ (λ outcome posted. post_happens (client_of c.self.inside) Password side c.post-in-Password.new.self side.letter outcome refl refl
+    (idle_opens side.letter c.self.invariant.password.letter) posted) c.post-in-Password.ensures.posted)

@@ -1,0 +1,44 @@
+use Rattle.std.proofs.Common.{refl}
+use Rattle.client_tags.specs.declared.Kind.TheVariants.{Nigori, Preference, Password}
+use Rattle.replay_client.specs.Clients.{client_of}
+use Rattle.replay_client.proofs.Effects.{if_ok_weaker}
+use Rattle.replay_client.proofs.MailLemmas.{turn_happens, same_rule, stays_idle}
+use Rattle.replay_client.proofs.client.Client.turn.Goals as goal
+
+pub invariant_of-self : goal.invariant_of-self
+invariant_of-self c = record {
+  nigori = stays_idle c.turn.result _ c.args.number Nigori c.self.inside.nigori c.turn.new.self c.args.settlements.now.items c.turn.new.settlements.items
+      c.self.invariant.nigori c.turn.ensures.turned c.turn.ensures.err;
+  password = c.self.invariant.password;
+  kind = c.self.invariant.kind;
+  letter = c.self.invariant.letter;
+  held = c.self.invariant.held;
+}
+
+pub invariant_of-self-in-Password : goal.invariant_of-self-in-Password
+invariant_of-self-in-Password c = record {
+  nigori = c.self.invariant.nigori;
+  password = stays_idle c.turn-in-Password.result _ c.args.number Password c.self.inside.password c.turn-in-Password.new.self c.args.settlements.now.items c.turn-in-Password.new.settlements.items
+      c.self.invariant.password c.turn-in-Password.ensures.turned c.turn-in-Password.ensures.err;
+  kind = c.self.invariant.kind;
+  letter = c.self.invariant.letter;
+  held = c.self.invariant.held;
+}
+
+pub returns-in-Nigori-clause-happens : goal.returns-in-Nigori-clause-happens
+returns-in-Nigori-clause-happens c =
+    let side = c.self.inside.nigori in
+    rw (← c.self.view_is, c.in-Nigori.is) (if_ok_weaker c.turn.result _ _ (λ outcome turned. turn_happens c.args.number (client_of c.self.inside) Nigori _ side c.turn.new.self side.processor.mailbox outcome
+    c.args.settlements.now.items c.turn.new.settlements.items (same_rule Nigori) refl refl turned) c.turn.ensures.turned)
+
+pub returns-in-Preference-clause-happens : goal.returns-in-Preference-clause-happens
+returns-in-Preference-clause-happens c =
+    let side = c.self.inside.preference in
+    rw (← c.self.view_is, c.in-Preference.is) (if_ok_weaker c.turn-in-Preference.result _ _ (λ outcome turned. turn_happens c.args.number (client_of c.self.inside) Preference _ side c.turn-in-Preference.new.self side.processor.mailbox outcome
+    c.args.settlements.now.items c.turn-in-Preference.new.settlements.items (same_rule Preference) refl refl turned) c.turn-in-Preference.ensures.turned)
+
+pub returns-in-Password-clause-happens : goal.returns-in-Password-clause-happens
+returns-in-Password-clause-happens c =
+    let side = c.self.inside.password in
+    rw (← c.self.view_is, c.in-Password.is) (if_ok_weaker c.turn-in-Password.result _ _ (λ outcome turned. turn_happens c.args.number (client_of c.self.inside) Password _ side c.turn-in-Password.new.self side.processor.mailbox outcome
+    c.args.settlements.now.items c.turn-in-Password.new.settlements.items (same_rule Password) refl refl turned) c.turn-in-Password.ensures.turned)

@@ -1,0 +1,10 @@
+pub mod Happenings
+pub mod Mail
+pub mod Requests
+pub mod Clients
+pub mod Sides
+pub mod Replies
+pub mod Readings
+pub mod Withdrawn
+pub mod Refusals
+pub mod Laws

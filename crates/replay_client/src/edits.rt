@@ -1,0 +1,91 @@
+//! What a user's edit makes of a client.
+ghost use Rattle.std.specs.Prelude.{◌≡◌, ◌<◌, ◌++◌, map, vec_len, vec_capacity, IfOk, OnOk, OnErr};
+ghost use Rattle.client_tags.specs.declared.Kind.TheVariants.{Preference as preference_kind};
+ghost use Rattle.run_setting.specs.Hashed.{hashed};
+ghost use Rattle.sync_model.specs.Changes.{change_effect, follows};
+ghost use Rattle.sync_model.specs.Edits.{edit_kind};
+ghost use Rattle.sync_model.specs.Worlds.{settlement_of};
+ghost use Rattle.replay_client.specs.Refusals.{IsRefusal};
+ghost use Rattle.replay_client.specs.Happenings.{Happens, IsPlainOutcome};
+
+use crate::client::Client;
+use client_tags::Kind;
+use sync_model::{Edit, EventOutcome, Fate, Settlement};
+use type_processor::EditFault;
+use wire_fields::NoMemory;
+
+fn copied_edit(edit: &Edit) -> Result<Edit, NoMemory>
+    requires { edit_kind edit.now ≡ preference_kind }
+    ensures { IfOk result (λ copy. copy ≡ edit.now) }
+{
+    match edit {
+        Edit::SetPreference(preference) => Ok(Edit::SetPreference(preference.copy()?)),
+        Edit::DeletePreference(name) => Ok(Edit::DeletePreference(name.copy()?)),
+        _ => unreachable!(),
+    }
+}
+
+// Tells that an edit was refused from that memory was wanting for it.
+fn refused(fault: EditFault) -> Result<(), NoMemory>
+    ensures { OnOk result (IsRefusal fault) }
+{
+    match fault {
+        EditFault::NoMemory => Err(NoMemory),
+        _ => Ok(()),
+    }
+}
+
+// An edit of this number settles the one that it follows.
+fn settle_followed(
+    settlements: &mut Vec<Settlement>,
+    client: u32,
+    followed: Option<u64>,
+    number: u64,
+)
+    requires { vec_len settlements.old < vec_capacity settlements.old }
+    ensures { settlements.new.items
+        ≡ settlements.old.items ++ map (settlement_of client preference_kind) (follows followed number) }
+{
+    if let Some(due) = followed {
+        settlements.push_reserved(Settlement {
+            client,
+            kind: Kind::Preference,
+            number: due,
+            fate: Fate::Followed(number),
+        });
+    }
+}
+
+impl Client {
+    /// The user edits a preference. It is void where the texts are too long or there is no room. It takes time in
+    /// the length of the texts and the logarithm of the number of preferences.
+    pub fn edit(
+        &mut self,
+        number: u32,
+        edit: &Edit,
+        settlements: &mut Vec<Settlement>,
+    ) -> Result<EventOutcome, NoMemory>
+        requires { edit_kind edit.now ≡ preference_kind }
+        ensures happens { IfOk result (λ outcome. Happens number (change_effect hashed number edit.now self.old) outcome
+            self.old self.new settlements.old.items settlements.new.items) }
+        ensures plain { IfOk result IsPlainOutcome }
+        ensures err { OnErr result (self.new ≡ self.old) }
+        ensures unsettled { OnErr result (settlements.new.items ≡ settlements.old.items) }
+    {
+        let copy = copied_edit(edit)?;
+        settlements.reserve(1)?;
+        let edited = match self.preference.processor.edit(copy) {
+            Ok(edited) => edited,
+            Err(fault) => {
+                refused(fault)?;
+                return Ok(EventOutcome::Void);
+            }
+        };
+        settle_followed(settlements, number, edited.followed, edited.number);
+        Ok(EventOutcome::Edited {
+            client: number,
+            kind: Kind::Preference,
+            number: edited.number,
+        })
+    }
+}
