@@ -1,95 +1,113 @@
 -- Where the reader stops.
-use Rattle.std.proofs.Common.{◌≡◌, ◌≢◌, inr, ℕ, ◌+◌, ◌≤◌, List, [], ◌∷◌, ◌++◌, map, length, codes, Result, Ok, Err, refl, sym, ap, subst, ◌∙◌, arith, append_assoc}
-use Rattle.std.specs.Prelude.{MatchResult}
-use Rattle.std.specs.Fmt.{digits}
-use Rattle.std.specs.List.{AllByRecursion, flat_map}
-use Rattle.sync_model.specs.declared.event.Event.{Event}
+use Rattle.std.proofs.Common.{◌≡◌, ◌≢◌, inl, inr, ℕ, ◌+◌, List, [], ◌∷◌, ◌++◌, length, Option, Some, None, Result, Ok, Err, MatchResult, IsErrAnd, refl, sym, ap, subst, ◌∙◌, append_assoc}
+use Rattle.std.specs.List.{join_with_byte}
 use Rattle.sync_model.specs.declared.event.Schedule.{Schedule}
 use Rattle.schedule_text.specs.declared.fault.LineReason.{LineReason}
-use Rattle.schedule_text.specs.declared.fault.LineReason.TheVariants.{Later}
+use Rattle.schedule_text.specs.declared.fault.LineReason.TheVariants.{End, Form, Number, Range, Word, Many, Later}
+use Rattle.schedule_text.specs.declared.fault.LineFault.{LineFault}
+use Rattle.schedule_text.specs.declared.fault.LineFault.TheVariants.{Bad, NoMemory}
 use Rattle.schedule_text.specs.declared.fault.ParseFault.{ParseFault}
-use Rattle.schedule_text.specs.declared.fault.ParseFault.TheVariants.{BadLine, NoMemory}
-use Rattle.schedule_text.specs.Lines.{clients_words, event_words, schedule_text, with_end}
-use Rattle.schedule_text.specs.Spelling.{IsKnown, MAX_EVENTS, Spells}
-use Rattle.schedule_text.specs.Refusals.{IsNoLine, IsRefused, MayStand}
-use Rattle.schedule_text.specs.Answers.{IsFaultOf, IsUnlessNoMemory}
-use Rattle.schedule_text.specs.Reading.{AreEventsOf, IsCut, IsFaultAfter, IsFaultAt, IsRefusedAfter, event_lines}
-use Rattle.schedule_text.proofs.LineEnds.{clients_is}
-use Rattle.schedule_text.proofs.OneCutting.{line_regrouped}
-use Rattle.schedule_text.proofs.TheLaws.{event_lines_are, events_stand, spells_one, refuses_one, refuses_none}
+use Rattle.schedule_text.specs.declared.fault.ParseFault.TheVariants.{BadLine, NoMemory as WantsMemory}
+use Rattle.schedule_text.specs.declared.line.Line.{Line}
+use Rattle.schedule_text.specs.declared.line.Line.TheVariants.{Clients}
+use Rattle.schedule_text.specs.Answers.{IsFaultOf}
+use Rattle.schedule_text.specs.Faults.{IsFaultAfter}
+use Rattle.schedule_text.specs.Grammar.{forms_after}
+use Rattle.schedule_text.specs.Lines.{line_text, line_words, lines_of, schedule_text, with_end}
+use Rattle.schedule_text.specs.Places.{MayStand, after_line}
+use Rattle.schedule_text.specs.Reading.{IsCut, IsFaultIn, IsFaultNext, fault_at}
+use Rattle.schedule_text.specs.Refusals.{HasNoEnd, IsNoLine, IsRefused, IsWrongLine, words_of}
+use Rattle.schedule_text.specs.Spelling.{IsBuiltSchedule, IsSchedule, IsUpTo, Spells}
+use Rattle.schedule_text.proofs.Words.{joined}
+use Rattle.schedule_text.proofs.Scheduled.{first_is_schedule, first_text, stays_schedule, text_goes_on}
+
+pub line_regrouped : (line rest : List ℕ) → with_end line ++ rest ≡ line ++ 10 ∷ rest
+line_regrouped line rest = append_assoc line (10 ∷ []) rest
+
+-- a text by its first line
+pub line_is : (bytes line rest : List ℕ) (said : Line) → IsCut bytes 10 line rest → words_of line ≡ line_words said → bytes ≡ line_text said ++ rest
+unfolding line_text
+line_is bytes line rest said cut words =
+    cut.is_whole
+    ∙ ap (λ (l : List ℕ). l ++ 10 ∷ rest) (sym (joined line) ∙ ap (join_with_byte 32) words)
+    ∙ sym (line_regrouped (join_with_byte 32 (line_words said)) rest)
+
+wrong_line : (before : Option Schedule) (rest line more : List ℕ) (reason : LineReason) → IsCut rest 10 line more → IsFaultAfter before (words_of line) reason → IsWrongLine before rest reason
+wrong_line before rest line more reason cut fault =
+    record { line = line; more = more; is_rest = cut.is_whole ∙ sym (line_regrouped line more); has_no_end = cut.is_first; is_fault = fault }
+
+no_line : (before : Option Schedule) (rest line more : List ℕ) (reason : LineReason) → IsCut rest 10 line more → IsFaultAfter before (words_of line) reason → IsNoLine before rest reason
+no_line before rest line more End cut fault = absurd fault
+no_line before rest line more Form cut fault = inr (wrong_line before rest line more Form cut fault)
+no_line before rest line more Number cut fault = wrong_line before rest line more Number cut fault
+no_line before rest line more Range cut fault = wrong_line before rest line more Range cut fault
+no_line before rest line more Word cut fault = wrong_line before rest line more Word cut fault
+no_line before rest line more Many cut fault = wrong_line before rest line more Many cut fault
+no_line before rest line more Later cut fault = wrong_line before rest line more Later cut fault
 
 -- ---- the first line
 
-pub refused_at_first : (bytes : List ℕ) (reason : LineReason) → IsNoLine 0 bytes reason → IsRefused bytes 1 reason
-refused_at_first bytes reason no_line = record { before = []; rest = bytes; is_text = refl; may_stand = tt; is_next = refl; is_no_line = no_line }
+pub refused_at_first : (bytes : List ℕ) (reason : LineReason) → IsNoLine None bytes reason → IsRefused bytes 1 reason
+refused_at_first bytes reason no_line =
+    record { before = None; front = []; rest = bytes; is_text = refl; is_before = refl; is_next = refl; is_no_line = no_line }
 
-pub wrong_line : (number : ℕ) (bytes words rest : List ℕ) → IsCut bytes 10 words rest → (MayStand number words → ⊥) → IsNoLine number bytes Later
-wrong_line number bytes words rest cut wrong =
-    inr (record { words = words; after = rest; is_rest = cut.is_whole ∙ sym (line_regrouped words rest); has_no_end = cut.is_first; may_not_stand = wrong })
+first_fault_at : (bytes line rest : List ℕ) (reason : LineReason) → IsCut bytes 10 line rest → IsFaultIn (forms_after None) (words_of line) (Bad reason) → IsFaultAfter None (words_of line) reason
+first_fault_at bytes line rest End cut fault = fault
+first_fault_at bytes line rest Form cut fault = fault
+first_fault_at bytes line rest Number cut fault = fault
+first_fault_at bytes line rest Range cut fault = fault
+first_fault_at bytes line rest Word cut fault = fault
+first_fault_at bytes line rest Many cut fault = absurd fault
+first_fault_at bytes line rest Later cut fault = absurd fault
 
-pub wrong_clients : (bytes words rest : List ℕ) → IsCut bytes 10 words rest → words ≢ codes "clients 1" → IsRefused bytes 1 Later
-wrong_clients bytes words rest cut wrong = refused_at_first bytes Later (wrong_line 0 bytes words rest cut (λ is. wrong (is ∙ clients_is)))
+first_fault : (bytes line rest : List ℕ) (fault : LineFault) → IsCut bytes 10 line rest → IsFaultIn (forms_after None) (words_of line) fault → IsFaultOf bytes (fault_at 1 fault)
+first_fault bytes line rest (Bad reason) cut fault =
+    refused_at_first bytes reason (no_line None bytes line rest reason cut (first_fault_at bytes line rest reason cut fault))
+first_fault bytes line rest NoMemory cut fault = tt
 
-pub first_line : (bytes words rest : List ℕ) → IsCut bytes 10 words rest → words ≡ codes "clients 1" → bytes ≡ with_end (clients_words 1) ++ rest
-first_line bytes words rest cut is = cut.is_whole ∙ ap (λ (w : List ℕ). w ++ 10 ∷ rest) (is ∙ sym clients_is) ∙ sym (line_regrouped (clients_words 1) rest)
+pub first_is_refused : (bytes line rest : List ℕ) (fault : LineFault) (told : ParseFault) → told ≡ fault_at 1 fault → IsCut bytes 10 line rest → IsFaultIn (forms_after None) (words_of line) fault → IsFaultOf bytes told
+first_is_refused bytes line rest fault told is cut at = subst (IsFaultOf bytes) (sym is) (first_fault bytes line rest fault cut at)
 
--- ---- the events
+-- ---- the lines after
 
--- a fault at a line is one in its place
-pub fault_in_place : (lines rest words after : List ℕ) (events : List Event) (before : ℕ) (fault : ParseFault) → before ≡ length events → lines ≡ event_lines events ++ rest → AllByRecursion IsKnown events → length events ≤ MAX_EVENTS → IsCut rest 10 words after → IsFaultAt before words fault → IsFaultAfter lines fault
-fault_in_place lines rest words after events before (BadLine line reason) count is known within cut at =
+-- what has been read of a text: a schedule, and what follows its lines
+pub record IsRead (bytes : List ℕ) (schedule : Schedule) (rest : List ℕ) : Type 0 where
+  pub is_text : bytes ≡ schedule_text schedule ++ rest
+  pub is_schedule : IsSchedule schedule
+  pub is_built : IsBuiltSchedule schedule
+
+pub refused_next : (bytes rest : List ℕ) (before : Schedule) (line : ℕ) (reason : LineReason) → IsRead bytes before rest → line ≡ length (lines_of before) + 1 → IsNoLine (Some before) rest reason → IsRefused bytes line reason
+refused_next bytes rest before line reason read is no_line =
     record {
-      events = events;
+      before = Some before;
+      front = schedule_text before;
       rest = rest;
-      are_lines = is;
-      known = known;
-      within = within;
-      is_next = at.0 ∙ ap (λ (n : ℕ). n + 2) count;
-      is_no_line = subst (λ (r : LineReason). IsNoLine (length events + 1) rest r) (sym at.1) (wrong_line (length events + 1) rest words after cut (subst (λ (n : ℕ). MayStand (n + 1) words → ⊥) count at.2));
+      is_text = read.is_text;
+      is_before = record { is_text = refl; is_schedule = read.is_schedule; is_built = read.is_built };
+      is_next = is;
+      is_no_line = no_line;
     }
-fault_in_place lines rest words after events before NoMemory count is known within cut at = tt
 
--- ---- the whole text
+pub fault_next : (bytes rest line more : List ℕ) (before : Schedule) (fault : ParseFault) → IsRead bytes before rest → IsCut rest 10 line more → IsFaultNext before (words_of line) fault → IsFaultOf bytes fault
+fault_next bytes rest line more before (BadLine number reason) read cut fault =
+    refused_next bytes rest before number reason read fault.0 (no_line (Some before) rest line more reason cut fault.1)
+fault_next bytes rest line more before WantsMemory read cut fault = tt
 
-pub spelled : (bytes lines : List ℕ) (events : List Event) → bytes ≡ with_end (clients_words 1) ++ lines → AreEventsOf lines events → Spells bytes (record { clients = 1; seed = 0; passes = []; events = events })
-unfolding schedule_text digits
-spelled bytes lines events is are =
+pub reads_on : (bytes rest line more : List ℕ) (before after : Schedule) (said : Line) → IsRead bytes before rest → IsCut rest 10 line more → MayStand (Some before) said → words_of line ≡ line_words said → after_line (Some before) said ≡ Some after → IsRead bytes after more
+reads_on bytes rest line more before after said read cut stands words is =
+    let right = stays_schedule before after said read.is_schedule read.is_built stands is in
     record {
-      is_text = is ∙ ap (λ (l : List ℕ). with_end (clients_words 1) ++ l) are.are_lines;
-      is_schedule = record { one_client = refl; no_seed = refl; no_passes = refl; known = are.known; within = are.within };
+      is_text = read.is_text ∙ ap (λ (r : List ℕ). schedule_text before ++ r) (line_is rest line more said cut words) ∙ sym (append_assoc (schedule_text before) (line_text said) more) ∙ ap (λ (t : List ℕ). t ++ more) (sym (text_goes_on before after said stands.is_in_place is));
+      is_schedule = right.0;
+      is_built = right.1;
     }
 
-lines_length : (events : List Event) → length (clients_words 1 ∷ map event_words events) ≡ length events + 1
-lines_length [] = refl
-lines_length (event ∷ events) = omega (arith, lines_length events)
+pub first_read : (bytes rest : List ℕ) (clients : ℕ) → IsUpTo 8 clients → bytes ≡ line_text (Clients clients) ++ rest → IsRead bytes (record { clients = clients; seed = 0; passes = []; events = [] }) rest
+first_read bytes rest clients within is =
+    let right = first_is_schedule clients within in
+    record { is_text = is ∙ ap (λ (t : List ℕ). t ++ rest) (sym (first_text clients)); is_schedule = right.0; is_built = right.1 }
 
-refused_after : (bytes lines : List ℕ) (line : ℕ) (reason : LineReason) → bytes ≡ with_end (clients_words 1) ++ lines → IsRefusedAfter lines line reason → IsRefused bytes line reason
-refused_after bytes lines line reason is after =
-    let before : List (List ℕ) = clients_words 1 ∷ map event_words after.events in
-    let count = lines_length after.events in
-    record {
-      before = before;
-      rest = after.rest;
-      is_text = is ∙ ap (λ (l : List ℕ). with_end (clients_words 1) ++ l) (after.are_lines ∙ ap (λ (l : List ℕ). l ++ after.rest) (sym (event_lines_are after.events))) ∙ sym (append_assoc (with_end (clients_words 1)) (flat_map with_end (map event_words after.events)) after.rest);
-      may_stand = (refl, events_stand 0 after.events after.known (omega (arith, after.within)));
-      is_next = omega (arith, count, after.is_next);
-      is_no_line = subst (λ (n : ℕ). IsNoLine n after.rest reason) (sym count) after.is_no_line;
-    }
-
-pub fault_of_text : (bytes lines : List ℕ) (fault : ParseFault) → bytes ≡ with_end (clients_words 1) ++ lines → IsFaultAfter lines fault → IsFaultOf bytes fault
-fault_of_text bytes lines (BadLine line reason) is after = refused_after bytes lines line reason is after
-fault_of_text bytes lines NoMemory is after = tt
-
--- ---- the one right answer
-
-pub is_taken : (bytes : List ℕ) (r : Result Schedule ParseFault) → MatchResult r (λ schedule. Spells bytes schedule) (λ fault. IsFaultOf bytes fault) → (schedule : Schedule) → Spells bytes schedule → IsUnlessNoMemory r (Ok schedule)
-is_taken bytes (Ok found) right schedule spells = ap Ok (spells_one bytes found schedule right spells)
-is_taken bytes (Err (BadLine line reason)) right schedule spells = absurd (refuses_none bytes schedule line reason spells right)
-is_taken bytes (Err NoMemory) right schedule spells = tt
-
-pub is_told : (bytes : List ℕ) (r : Result Schedule ParseFault) → MatchResult r (λ schedule. Spells bytes schedule) (λ fault. IsFaultOf bytes fault) → (line : ℕ) (reason : LineReason) → IsRefused bytes line reason → IsUnlessNoMemory r (Err (BadLine line reason))
-is_told bytes (Ok found) right line reason refused = absurd (refuses_none bytes found line reason right refused)
-is_told bytes (Err (BadLine place why)) right line reason refused =
-    let same = refuses_one bytes place line why reason right refused in
-    ap (λ (n : ℕ). Err (BadLine n why)) same.0 ∙ ap (λ (w : LineReason). Err (BadLine line w)) same.1
-is_told bytes (Err NoMemory) right line reason refused = tt
+-- what an early return of a fault answers
+pub err_at : {A E : Type 0} (P : A → Type 0) (Q : E → Type 0) (r : Result A E) (fault : E) → IsErrAnd r (λ f. f ≡ fault) → Q fault → MatchResult r P Q
+err_at P Q (Ok value) fault is at = absurd is
+err_at P Q (Err f) fault is at = subst Q (sym is) at

@@ -1,114 +1,225 @@
 -- A text spells one schedule at most, is refused at one line at most, and never both.
-use Rattle.std.proofs.Common.{◌≡◌, ◌≢◌, inl, inr, ℕ, suc, ◌+◌, ◌≤◌, List, [], ◌∷◌, ◌++◌, map, length, refl, sym, ap, subst, ◌∙◌, arith}
-use Rattle.std.specs.Fmt.{digits}
+use Rattle.std.proofs.Common.{◌≡◌, ◌≢◌, ◌⊎◌, inl, inr, ℕ, zero, suc, ◌+◌, ◌<◌, ◌≤◌, Bool, true, false, cond, ◌==◌, ◌&&◌, List, [], ◌∷◌, ◌++◌, length, map, Option, Some, None, Result, Ok, Err, refl, sym, ap, subst, ◌∙◌, arith, append_assoc, length-append}
+use Rattle.std.specs.Prelude.{MatchResult}
 use Rattle.std.specs.List.{AllByRecursion, flat_map}
+use Rattle.std.proofs.lemmas.Bool.{eq-eqb, eqb-true, eqb-false}
 use Rattle.std.proofs.lemmas.List.{append-nil}
-use Rattle.sync_model.specs.declared.event.Event.{Event}
+use Rattle.sync_model.specs.declared.event.Event.{Event as Step}
 use Rattle.sync_model.specs.declared.event.Schedule.{Schedule}
 use Rattle.schedule_text.specs.declared.fault.LineReason.{LineReason}
-use Rattle.schedule_text.specs.declared.fault.LineReason.TheVariants.{End, Later}
-use Rattle.schedule_text.specs.Lines.{clients_words, event_words, seed_line, pass_lines, schedule_text, with_end}
-use Rattle.schedule_text.specs.Spelling.{IsKnown, MAX_EVENTS, Spells}
-use Rattle.schedule_text.specs.Refusals.{HasWrongLine, IsNoLine, MayStand, MayStandFrom}
-use Rattle.schedule_text.specs.Reading.{event_lines}
-use Rattle.schedule_text.specs.Laws.{SpellsOneSchedule, RefusesOneLine, RefusesNoSchedule}
-use Rattle.schedule_text.proofs.Cuts.{no_cut, cuts_same}
-use Rattle.schedule_text.proofs.LineEnds.{no_end_in_line}
-use Rattle.schedule_text.proofs.OneEvent.{lists_same}
-use Rattle.schedule_text.proofs.OneCutting.{CannotGoOn, number_after, number_after_is, line_regrouped, lines_same}
+use Rattle.schedule_text.specs.declared.fault.LineReason.TheVariants.{End, Form, Number, Range, Word, Many, Later}
+use Rattle.schedule_text.specs.declared.fault.ParseFault.{ParseFault}
+use Rattle.schedule_text.specs.declared.fault.ParseFault.TheVariants.{BadLine, NoMemory}
+use Rattle.schedule_text.specs.declared.line.Line.{Line}
+use Rattle.schedule_text.specs.declared.line.Line.TheVariants.{Clients, Seed, Pass, Event}
+use Rattle.schedule_text.specs.Answers.{IsFaultOf, IsUnlessNoMemory}
+use Rattle.schedule_text.specs.Faults.{IsFaultAfter}
+use Rattle.schedule_text.specs.Grammar.{may_seed}
+use Rattle.schedule_text.specs.Laws.{IsReadBack, RefusesNoSchedule, RefusesOneLine, SpellsOneSchedule}
+use Rattle.schedule_text.specs.Limits.{MAX_EVENTS, MAX_SEED}
+use Rattle.schedule_text.specs.Lines.{line_text, line_words, lines_of, schedule_text}
+use Rattle.schedule_text.specs.Places.{MayStand}
+use Rattle.schedule_text.specs.Refusals.{HasNoEnd, IsNoLine, IsRefused, IsWrongLine, SpellsBefore, lines_before, words_of}
+use Rattle.schedule_text.specs.Spelling.{IsBuilt, IsBuiltSchedule, IsEvent, IsSchedule, IsUpTo, Spells}
+use Rattle.schedule_text.proofs.Cuts.{cuts_same, no_cut}
+use Rattle.schedule_text.proofs.OneCutting.{CannotGoOn, IsSound, MayStandFrom, after_lines, cuttings_same, good_of, line_bytes, no_end_in_line, text_is, words_of_line}
+use Rattle.schedule_text.proofs.Refusing.{line_regrouped}
+use Rattle.schedule_text.proofs.RightLines.{reasons_same, standing_has_no_fault}
+
+-- ---- the lines of a schedule may stand one after another
+
+events_stand : (base : Schedule) (before events : List Step) → AllByRecursion (IsEvent base.clients (length base.passes)) events → AllByRecursion IsBuilt events → length before + length events ≤ MAX_EVENTS → MayStandFrom (Some (record base { events = before })) (map Event events)
+events_stand base before [] right built within = tt
+events_stand base before (event ∷ events) right built within = (
+  record { is_in_place = right.0; has_room = omega (arith, within); is_built = built.0 },
+  events_stand base (before ++ event ∷ []) events right.1 built.1 (omega (arith, length-append before (event ∷ []), within)),
+)
+
+events_after : (base : Schedule) (before events : List Step) → after_lines (Some (record base { events = before })) (map Event events) ≡ Some (record base { events = before ++ events })
+events_after base before [] = ap (λ (es : List Step). Some (record base { events = es })) (sym (append-nil before))
+events_after base before (event ∷ events) =
+    events_after base (before ++ event ∷ []) events ∙ ap (λ (es : List Step). Some (record base { events = es })) (append_assoc before (event ∷ []) events)
+
+all_three : (b : Bool) → b ≡ true → (b && b && b) ≡ true
+all_three true is = refl
+all_three false is = absurd cc
+
+-- lines that may stand from the first on, and what stands before the next then
+record AreLinesOf (schedule : Schedule) (lines : List Line) : Type 0 where
+  pub stand : MayStandFrom None lines
+  pub after : after_lines None lines ≡ Some schedule
+
+lines_at : (none : Bool) (clients seed : ℕ) (events : List Step) → (none ≡ true → seed ≡ 0) → (none ≡ false → 1 ≤ seed) → seed ≤ MAX_SEED → IsUpTo 8 clients → AllByRecursion (IsEvent clients 0) events → AllByRecursion IsBuilt events → length events ≤ MAX_EVENTS → AreLinesOf (record { clients = clients; seed = seed; passes = []; events = events }) (Clients clients ∷ cond none [] (Seed seed ∷ []) ++ [] ++ map Event events)
+lines_at true clients seed events zero_is some high few right built within =
+    let base : Schedule = record { clients = clients; seed = 0; passes = []; events = [] } in
+    record {
+      stand = (record { is_in_place = few; has_room = tt; is_built = refl }, events_stand base [] events right built (omega (arith, within)));
+      after = events_after base [] events ∙ ap (λ (n : ℕ). Some (record { clients = clients; seed = n; passes = []; events = events })) (sym (zero_is refl));
+    }
+lines_at false clients seed events zero_is some high few right built within =
+    let base : Schedule = record { clients = clients; seed = seed; passes = []; events = [] } in
+    record {
+      stand = (record { is_in_place = few; has_room = tt; is_built = refl }, (record { is_in_place = (all_three (0 == 0) (eq-eqb 0 0 refl), (some refl, high)); has_room = tt; is_built = refl }, events_stand base [] events right built (omega (arith, within))));
+      after = events_after base [] events;
+    }
+
+some_seed : (seed : ℕ) → (seed == 0) ≡ false → 1 ≤ seed
+some_seed zero is = absurd (eqb-false 0 0 is refl)
+some_seed (suc seed) is = omega arith
+
+schedule_lines : (schedule : Schedule) → IsSchedule schedule → IsBuiltSchedule schedule → AreLinesOf schedule (lines_of schedule)
+schedule_lines schedule right built =
+    let seed = schedule.seed in
+    let events : AllByRecursion (IsEvent schedule.clients 0) schedule.events = subst (λ (ps : List (List ℕ)). AllByRecursion (IsEvent schedule.clients (length ps)) schedule.events) built.no_passes right.events_are in
+    let at = lines_at (seed == 0) schedule.clients seed schedule.events (eqb-true seed 0) (some_seed seed) right.seed_is right.clients_are events built.events_are right.events_within in
+    subst (λ (ps : List (List ℕ)). AreLinesOf (record schedule { passes = ps }) (lines_of (record schedule { passes = ps }))) (sym built.no_passes) at
+
+-- ---- what stands before a line
+
+-- a text by its lines, which may stand from the first on
+record IsFront (text : List ℕ) (before : Option Schedule) : Type 0 where
+  pub lines : List Line
+  pub is_text : text ≡ flat_map line_text lines
+  pub stand : MayStandFrom None lines
+  pub after : after_lines None lines ≡ before
+  pub count : length lines ≡ lines_before before
+  pub is_sound : IsSound before
+
+front_of : (text : List ℕ) (before : Option Schedule) → SpellsBefore text before → IsFront text before
+unfolding schedule_text
+front_of text None is = record { lines = []; is_text = is; stand = tt; after = refl; count = refl; is_sound = tt }
+front_of text (Some schedule) is =
+    let lines = schedule_lines schedule is.is_schedule is.is_built in
+    record { lines = lines_of schedule; is_text = is.is_text; stand = lines.stand; after = lines.after; count = refl; is_sound = (is.is_schedule, is.is_built) }
 
 -- ---- where no more line may stand
 
-no_line_is_nothing : (words after : List ℕ) → [] ≢ words ++ 10 ∷ after
-no_line_is_nothing [] after e = cc
-no_line_is_nothing (byte ∷ words) after e = cc
+no_line_is_nothing : (line more : List ℕ) → [] ≢ line ++ 10 ∷ more
+no_line_is_nothing [] more e = cc
+no_line_is_nothing (byte ∷ line) more e = cc
 
-nothing_ends : (number : ℕ) → CannotGoOn number []
-nothing_ends number words after e stands = no_line_is_nothing words after (e ∙ line_regrouped words after)
+nothing_ends : (before : Option Schedule) → CannotGoOn before []
+nothing_ends before line more e stands = no_line_is_nothing (line_bytes line) more (e ∙ text_is line more)
 
-wrong_ends : (number : ℕ) (rest : List ℕ) → HasWrongLine number rest → CannotGoOn number rest
-wrong_ends number rest wrong words after e stands =
-    let whole : wrong.words ++ 10 ∷ wrong.after ≡ words ++ 10 ∷ after = sym (wrong.is_rest ∙ line_regrouped wrong.words wrong.after) ∙ e ∙ line_regrouped words after in
-    let same = cuts_same 10 wrong.words wrong.after words after wrong.has_no_end (no_end_in_line number words stands) whole in
-    wrong.may_not_stand (subst (MayStand number) (sym same.0) stands)
+wrong_ends : (before : Option Schedule) (rest : List ℕ) (reason : LineReason) → IsSound before → IsWrongLine before rest reason → CannotGoOn before rest
+wrong_ends before rest reason sound wrong line more e stands =
+    let good = good_of before sound in
+    let whole : wrong.line ++ 10 ∷ wrong.more ≡ line_bytes line ++ 10 ∷ more = sym (wrong.is_rest ∙ line_regrouped wrong.line wrong.more) ∙ e ∙ text_is line more in
+    let same = cuts_same 10 wrong.line wrong.more (line_bytes line) more wrong.has_no_end (no_end_in_line before line good stands.is_in_place) whole in
+    standing_has_no_fault before line (words_of wrong.line) reason good stands (ap words_of same.0 ∙ words_of_line before line good stands.is_in_place) wrong.is_fault
 
-no_line_ends : (number : ℕ) (rest : List ℕ) (reason : LineReason) → IsNoLine number rest reason → CannotGoOn number rest
-no_line_ends number rest End no_line words after e stands = no_cut 10 rest words after no_line.1 (e ∙ line_regrouped words after)
-no_line_ends number rest Later (inl none) words after e stands = nothing_ends number words after (sym none.1 ∙ e) stands
-no_line_ends number rest Later (inr wrong) words after e stands = wrong_ends number rest wrong words after e stands
+-- bytes without an end, or nothing in place of the first line, or a wrong line
+views : (before : Option Schedule) (rest : List ℕ) (reason : LineReason) → IsNoLine before rest reason → ((rest ≢ []) × HasNoEnd rest × (reason ≡ End)) ⊎ (((before ≡ None) × (rest ≡ []) × (reason ≡ Form)) ⊎ IsWrongLine before rest reason)
+views before rest End is = inl (is.0, is.1, refl)
+views before rest Form (inl none) = inr (inl (none.0, none.1, refl))
+views before rest Form (inr wrong) = inr (inr wrong)
+views before rest Number is = inr (inr is)
+views before rest Range is = inr (inr is)
+views before rest Word is = inr (inr is)
+views before rest Many is = inr (inr is)
+views before rest Later is = inr (inr is)
 
--- ---- the lines of a schedule
+no_line_ends : (before : Option Schedule) (rest : List ℕ) (reason : LineReason) → IsSound before → IsNoLine before rest reason → CannotGoOn before rest
+no_line_ends before rest reason sound no_line line more e stands =
+    elim (views before rest reason no_line) [
+      | inl open_end ↦ no_cut 10 rest (line_bytes line) more open_end.1 (e ∙ text_is line more)
+      | inr (inl none) ↦ nothing_ends before line more (sym none.1 ∙ e) stands
+      | inr (inr wrong) ↦ wrong_ends before rest reason sound wrong line more e stands
+    ]
 
-pub lines_of : List Event → List (List ℕ)
-lines_of events = clients_words 1 ∷ map event_words events
+wrong_has_end : (before : Option Schedule) (rest : List ℕ) (reason : LineReason) → HasNoEnd rest → IsWrongLine before rest reason → ⊥
+wrong_has_end before rest reason none wrong = no_cut 10 rest wrong.line wrong.more none (wrong.is_rest ∙ line_regrouped wrong.line wrong.more)
 
-pub event_lines_are : (events : List Event) → flat_map with_end (map event_words events) ≡ event_lines events
-event_lines_are [] = refl
-event_lines_are (event ∷ events) = ap (λ (l : List ℕ). with_end (event_words event) ++ l) (event_lines_are events)
+wrong_is_some : (before : Option Schedule) (rest : List ℕ) (reason : LineReason) → rest ≡ [] → IsWrongLine before rest reason → ⊥
+wrong_is_some before rest reason none wrong = no_line_is_nothing wrong.line wrong.more (sym none ∙ wrong.is_rest ∙ line_regrouped wrong.line wrong.more)
 
-pub events_stand : (before : ℕ) (events : List Event) → AllByRecursion IsKnown events → before + length events ≤ MAX_EVENTS → MayStandFrom (suc before) (map event_words events)
-events_stand before [] known within = tt
-events_stand before (event ∷ events) known within =
-    ((omega arith, record { event = event; is_known = known.0; are_words = refl }), events_stand (suc before) events known.1 (omega arith))
+wrong_reasons : (before : Option Schedule) (rest : List ℕ) (one other : LineReason) → IsSound before → IsWrongLine before rest one → IsWrongLine before rest other → one ≡ other
+wrong_reasons before rest one other sound p q =
+    let whole : p.line ++ 10 ∷ p.more ≡ q.line ++ 10 ∷ q.more = sym (p.is_rest ∙ line_regrouped p.line p.more) ∙ q.is_rest ∙ line_regrouped q.line q.more in
+    let same = cuts_same 10 p.line p.more q.line q.more p.has_no_end q.has_no_end whole in
+    reasons_same before (words_of p.line) one other (good_of before sound) p.is_fault (subst (λ (l : List ℕ). IsFaultAfter before (words_of l) other) (sym same.0) q.is_fault)
 
-lines_stand : (events : List Event) → AllByRecursion IsKnown events → length events ≤ MAX_EVENTS → MayStandFrom 0 (lines_of events)
-unfolding lines_of
-lines_stand events known within = (refl, events_stand 0 events known (omega arith))
+-- a place is refused for one reason
+place_reasons : (before : Option Schedule) (rest : List ℕ) (one other : LineReason) → IsSound before → IsNoLine before rest one → IsNoLine before rest other → one ≡ other
+place_reasons before rest one other sound p q =
+    elim (views before rest one p) [
+      | inl ends ↦ elim (views before rest other q) [
+        | inl too ↦ ends.2 ∙ sym too.2
+        | inr (inl none) ↦ absurd (ends.0 none.1)
+        | inr (inr wrong) ↦ absurd (wrong_has_end before rest other ends.1 wrong)
+      ]
+      | inr (inl none) ↦ elim (views before rest other q) [
+        | inl ends ↦ absurd (ends.0 none.1)
+        | inr (inl too) ↦ none.2 ∙ sym too.2
+        | inr (inr wrong) ↦ absurd (wrong_is_some before rest other none.1 wrong)
+      ]
+      | inr (inr wrong) ↦ elim (views before rest other q) [
+        | inl ends ↦ absurd (wrong_has_end before rest one ends.1 wrong)
+        | inr (inl none) ↦ absurd (wrong_is_some before rest one none.1 wrong)
+        | inr (inr too) ↦ wrong_reasons before rest one other sound wrong too
+      ]
+    ]
 
-spelled_lines : (text : List ℕ) (schedule : Schedule) → Spells text schedule → text ≡ flat_map with_end (lines_of schedule.events) ++ []
-unfolding lines_of schedule_text digits
-spelled_lines text schedule spells =
-    let is = spells.is_schedule in
-    let heads : ℕ → ℕ → List (List ℕ) → List ℕ = λ clients seed passes. with_end (clients_words clients) ++ seed_line seed ++ pass_lines passes ++ event_lines schedule.events in
-    let whole : text ≡ with_end (clients_words 1) ++ event_lines schedule.events = spells.is_text ∙ (λ i. heads (is.one_client i) (is.no_seed i) (is.no_passes i)) in
-    whole ∙ ap (λ (l : List ℕ). with_end (clients_words 1) ++ l) (sym (event_lines_are schedule.events)) ∙ sym (append-nil (with_end (clients_words 1) ++ flat_map with_end (map event_words schedule.events)))
+-- ---- the laws
 
-events_from_lines : (one other : List Event) → lines_of one ≡ lines_of other → map event_words one ≡ map event_words other
-unfolding lines_of
-events_from_lines one other e = cc
+some_same : {one other : Schedule} → Some one ≡ Some other → one ≡ other
+some_same e = cc
+
+some_is_not_none : (schedule : Schedule) → Some schedule ≢ None
+some_is_not_none schedule e = cc
+
+-- two texts that begin alike, where no more line may stand after what stands before
+record AreSame (one other : Option Schedule) (rest more : List ℕ) : Type 0 where
+  pub before_is : one ≡ other
+  pub rest_is : rest ≡ more
+
+fronts_same : (text front back : List ℕ) (one other : Option Schedule) (rest more : List ℕ) → text ≡ front ++ rest → text ≡ back ++ more → IsFront front one → IsFront back other → CannotGoOn one rest → CannotGoOn other more → AreSame one other rest more
+fronts_same text front back one other rest more is too p q ends stops =
+    let whole : flat_map line_text p.lines ++ rest ≡ flat_map line_text q.lines ++ more = ap (λ (t : List ℕ). t ++ rest) (sym p.is_text) ∙ sym is ∙ too ∙ ap (λ (t : List ℕ). t ++ more) q.is_text in
+    let same = cuttings_same None p.lines q.lines rest more tt p.stand q.stand (subst (λ (b : Option Schedule). CannotGoOn b rest) (sym p.after) ends) (subst (λ (b : Option Schedule). CannotGoOn b more) (sym q.after) stops) whole in
+    record { before_is = sym p.after ∙ ap (after_lines None) same.0 ∙ q.after; rest_is = same.1 }
+
+spelled_front : (text : List ℕ) (schedule : Schedule) → Spells text schedule → IsFront text (Some schedule)
+spelled_front text schedule spells = front_of text (Some schedule) spells
 
 pub spells_one : SpellsOneSchedule
 spells_one text one other first second =
-    let whole = sym (spelled_lines text one first) ∙ spelled_lines text other second in
-    let same = lines_same 0 (lines_of one.events) (lines_of other.events) [] [] (lines_stand one.events first.is_schedule.known first.is_schedule.within) (lines_stand other.events second.is_schedule.known second.is_schedule.within) (nothing_ends (number_after 0 (lines_of one.events))) (nothing_ends (number_after 0 (lines_of other.events))) whole in
-    let events : one.events ≡ other.events = lists_same one.events other.events first.is_schedule.known second.is_schedule.known (events_from_lines one.events other.events same.0) in
-    let clients : one.clients ≡ other.clients = first.is_schedule.one_client ∙ sym second.is_schedule.one_client in
-    let seed : one.seed ≡ other.seed = first.is_schedule.no_seed ∙ sym second.is_schedule.no_seed in
-    let passes : one.passes ≡ other.passes = first.is_schedule.no_passes ∙ sym second.is_schedule.no_passes in
-    λ i. record { clients = clients i; seed = seed i; passes = passes i; events = events i }
-
-refusal_ends : (before : List (List ℕ)) (rest : List ℕ) (reason : LineReason) → IsNoLine (length before) rest reason → CannotGoOn (number_after 0 before) rest
-refusal_ends before rest reason no_line =
-    subst (λ (n : ℕ). CannotGoOn n rest) (let n : length before ≡ number_after 0 before = omega (arith, number_after_is 0 before) in n) (no_line_ends (length before) rest reason no_line)
-
--- a place is refused for one reason
-reasons_same : (number : ℕ) (rest : List ℕ) (one other : LineReason) → IsNoLine number rest one → IsNoLine number rest other → one ≡ other
-reasons_same number rest End End p q = refl
-reasons_same number rest Later Later p q = refl
-reasons_same number rest End Later p (inl none) = absurd (p.0 none.1)
-reasons_same number rest End Later p (inr wrong) = absurd (no_cut 10 rest wrong.words wrong.after p.1 (wrong.is_rest ∙ line_regrouped wrong.words wrong.after))
-reasons_same number rest Later End (inl none) q = absurd (q.0 none.1)
-reasons_same number rest Later End (inr wrong) q = absurd (no_cut 10 rest wrong.words wrong.after q.1 (wrong.is_rest ∙ line_regrouped wrong.words wrong.after))
+    let same = fronts_same text text text (Some one) (Some other) [] [] (sym (append-nil text)) (sym (append-nil text)) (spelled_front text one first) (spelled_front text other second) (nothing_ends (Some one)) (nothing_ends (Some other)) in
+    some_same same.before_is
 
 pub refuses_one : RefusesOneLine
 refuses_one text line other_line reason other_reason first second =
-    let whole = sym first.is_text ∙ second.is_text in
-    let same = lines_same 0 first.before second.before first.rest second.rest first.may_stand second.may_stand (refusal_ends first.before first.rest reason first.is_no_line) (refusal_ends second.before second.rest other_reason second.is_no_line) whole in
-    let moved : IsNoLine (length first.before) first.rest other_reason = subst (λ (n : ℕ). IsNoLine n first.rest other_reason) (ap length (sym same.0)) (subst (λ (l : List ℕ). IsNoLine (length second.before) l other_reason) (sym same.1) second.is_no_line) in
-    (first.is_next ∙ ap (λ (l : List (List ℕ)). length l + 1) same.0 ∙ sym second.is_next, reasons_same (length first.before) first.rest reason other_reason first.is_no_line moved)
-
--- where nothing stands after some line, nothing is refused
-not_refused : (number : ℕ) (rest : List ℕ) (reason : LineReason) → rest ≡ [] → number ≢ 0 → IsNoLine number rest reason → ⊥
-not_refused number rest End none some no_line = no_line.0 none
-not_refused number rest Later none some (inl first) = some first.0
-not_refused number rest Later none some (inr wrong) = no_line_is_nothing wrong.words wrong.after (sym none ∙ wrong.is_rest ∙ line_regrouped wrong.words wrong.after)
-
-lines_length : (events : List Event) (lines : List (List ℕ)) → lines_of events ≡ lines → length lines ≢ 0
-unfolding lines_of
-lines_length events lines e none = let some : suc (length (map event_words events)) ≡ length lines = ap length e in omega arith
+    let one = front_of first.front first.before first.is_before in
+    let other = front_of second.front second.before second.is_before in
+    let same = fronts_same text first.front second.front first.before second.before first.rest second.rest first.is_text second.is_text one other (no_line_ends first.before first.rest reason one.is_sound first.is_no_line) (no_line_ends second.before second.rest other_reason other.is_sound second.is_no_line) in
+    let moved : IsNoLine first.before first.rest other_reason = subst (λ (b : Option Schedule). IsNoLine b first.rest other_reason) (sym same.before_is) (subst (λ (l : List ℕ). IsNoLine second.before l other_reason) (sym same.rest_is) second.is_no_line) in
+    (first.is_next ∙ ap (λ (b : Option Schedule). lines_before b + 1) same.before_is ∙ sym second.is_next, place_reasons first.before first.rest reason other_reason one.is_sound first.is_no_line moved)
 
 pub refuses_none : RefusesNoSchedule
 refuses_none text schedule line reason spells refused =
-    let whole = sym (spelled_lines text schedule spells) ∙ refused.is_text in
-    let same = lines_same 0 (lines_of schedule.events) refused.before [] refused.rest (lines_stand schedule.events spells.is_schedule.known spells.is_schedule.within) refused.may_stand (nothing_ends (number_after 0 (lines_of schedule.events))) (refusal_ends refused.before refused.rest reason refused.is_no_line) whole in
-    not_refused (length refused.before) refused.rest reason (sym same.1) (lines_length schedule.events refused.before same.0) refused.is_no_line
+    let other = front_of refused.front refused.before refused.is_before in
+    let same = fronts_same text text refused.front (Some schedule) refused.before [] refused.rest (sym (append-nil text)) refused.is_text (spelled_front text schedule spells) other (nothing_ends (Some schedule)) (no_line_ends refused.before refused.rest reason other.is_sound refused.is_no_line) in
+    elim (views refused.before refused.rest reason refused.is_no_line) [
+      | inl ends ↦ ends.0 (sym same.rest_is)
+      | inr (inl none) ↦ some_is_not_none schedule (same.before_is ∙ none.0)
+      | inr (inr wrong) ↦ wrong_is_some refused.before refused.rest reason (sym same.rest_is) wrong
+    ]
+
+pub read_back : IsReadBack
+read_back schedule other right built =
+    let spells : Spells (schedule_text schedule) schedule = record { is_text = refl; is_schedule = right; is_built = built } in
+    (spells, λ too. spells_one (schedule_text schedule) schedule other spells too)
+
+-- ---- the one right answer
+
+pub is_taken : (bytes : List ℕ) (r : Result Schedule ParseFault) → MatchResult r (λ schedule. Spells bytes schedule) (λ fault. IsFaultOf bytes fault) → (schedule : Schedule) → Spells bytes schedule → IsUnlessNoMemory r (Ok schedule)
+is_taken bytes (Ok found) right schedule spells = ap Ok (spells_one bytes found schedule right spells)
+is_taken bytes (Err (BadLine line reason)) right schedule spells = absurd (refuses_none bytes schedule line reason spells right)
+is_taken bytes (Err NoMemory) right schedule spells = tt
+
+pub is_told : (bytes : List ℕ) (r : Result Schedule ParseFault) → MatchResult r (λ schedule. Spells bytes schedule) (λ fault. IsFaultOf bytes fault) → (line : ℕ) (reason : LineReason) → IsRefused bytes line reason → IsUnlessNoMemory r (Err (BadLine line reason))
+is_told bytes (Ok found) right line reason refused = absurd (refuses_none bytes found line reason right refused)
+is_told bytes (Err (BadLine place why)) right line reason refused =
+    let same = refuses_one bytes place line why reason right refused in
+    ap (λ (n : ℕ). Err (BadLine n why)) same.0 ∙ ap (λ (w : LineReason). Err (BadLine line w)) same.1
+is_told bytes (Err NoMemory) right line reason refused = tt

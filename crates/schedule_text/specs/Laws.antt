@@ -1,8 +1,9 @@
--- What holds of texts: none spells two schedules, none is refused twice, and none does both.
+-- What holds of texts: none spells two schedules, none is refused twice, none does both, and each schedule has one.
 use Rattle.std.specs.Prelude.{◌≡◌, ℕ, List}
 use Rattle.sync_model.specs.declared.event.Schedule.{Schedule}
 use Rattle.schedule_text.specs.declared.fault.LineReason.{LineReason}
-use Rattle.schedule_text.specs.Spelling.{Spells}
+use Rattle.schedule_text.specs.Lines.{schedule_text}
+use Rattle.schedule_text.specs.Spelling.{IsSchedule, IsBuiltSchedule, Spells}
 use Rattle.schedule_text.specs.Refusals.{IsRefused}
 
 -- a text spells at most one schedule
@@ -20,3 +21,9 @@ abbrev pub RefusesNoSchedule : Type 0
 RefusesNoSchedule =
     (text : List ℕ) (schedule : Schedule) (line : ℕ) (reason : LineReason) → Spells text schedule
     → IsRefused text line reason → ⊥
+
+-- the text of a schedule that this stage knows spells it, and no other schedule
+abbrev pub IsReadBack : Type 0
+IsReadBack =
+    (schedule other : Schedule) → IsSchedule schedule → IsBuiltSchedule schedule
+    → Spells (schedule_text schedule) schedule × (Spells (schedule_text schedule) other → schedule ≡ other)

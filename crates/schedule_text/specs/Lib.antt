@@ -1,6 +1,12 @@
+pub mod Limits
 pub mod Lines
+pub mod Grammar
 pub mod Spelling
+pub mod Places
+pub mod Sites
+pub mod Faults
 pub mod Refusals
 pub mod Answers
 pub mod Reading
+pub mod Printing
 pub mod Laws

@@ -1,16 +1,26 @@
 -- The words of the reader's parts.
-use Rattle.std.specs.Prelude.{◌≡◌, ◌≢◌, ℕ, ◌+◌, ◌≤◌, List, ◌∷◌, ◌++◌, length, Option, MatchOption}
-use Rattle.std.specs.List.{AllByRecursion, flat_map}
-use Rattle.sync_values.specs.declared.value.Preference.{Preference}
+use Rattle.std.specs.Prelude.{◌≡◌, ◌≢◌, ℕ, ◌+◌, List, [], ◌∷◌, ◌++◌, length, codes, Option, Some, None, Result, Ok, Err, MatchOption, MatchResult}
+use Rattle.std.specs.List.{AllByRecursion}
+use Rattle.std.specs.Fmt.{decimal}
+use Rattle.client_tags.specs.declared.Kind.{Kind}
+use Rattle.sync_values.specs.declared.edit.Edit.{Edit as Change}
 use Rattle.sync_model.specs.declared.event.Event.{Event}
-use Rattle.sync_model.specs.declared.event.Event.TheVariants.{Edit, Cut, Turn, Gather, Post, Ask, Offer, Lose, Crash, Deliver, Answer, SetPass, GivePass}
+use Rattle.sync_model.specs.declared.event.Schedule.{Schedule}
+use Rattle.sync_model.specs.Text.{text_word, kind_word}
 use Rattle.schedule_text.specs.declared.fault.LineReason.{LineReason}
-use Rattle.schedule_text.specs.declared.fault.LineReason.TheVariants.{Later}
+use Rattle.schedule_text.specs.declared.fault.LineReason.TheVariants.{Form}
+use Rattle.schedule_text.specs.declared.fault.LineFault.{LineFault}
+use Rattle.schedule_text.specs.declared.fault.LineFault.TheVariants.{Bad, NoMemory}
 use Rattle.schedule_text.specs.declared.fault.ParseFault.{ParseFault}
-use Rattle.schedule_text.specs.declared.fault.ParseFault.TheVariants.{BadLine, NoMemory}
-use Rattle.schedule_text.specs.Lines.{event_words, with_end}
-use Rattle.schedule_text.specs.Spelling.{AreBytes, IsKnown, MAX_EVENTS}
-use Rattle.schedule_text.specs.Refusals.{IsNoLine, IsRefused, MayStand}
+use Rattle.schedule_text.specs.declared.fault.ParseFault.TheVariants.{BadLine, NoMemory as WantsMemory}
+use Rattle.schedule_text.specs.declared.line.Line.{Line}
+use Rattle.schedule_text.specs.declared.verb.Verb.{Verb}
+use Rattle.schedule_text.specs.declared.verb.Verb.TheVariants.{Edit, Cut, Turn, Gather, Post, Ask, Offer, Lose, Crash, Deliver, Answer, SetPass, GivePass}
+use Rattle.schedule_text.specs.Grammar.{Slot, Between, AnyText, after_slot, change_forms, kept_forms, kind_forms, client_forms, number_forms, pass_forms}
+use Rattle.schedule_text.specs.Lines.{lines_of}
+use Rattle.schedule_text.specs.Spelling.{AreBytes, IsChange, IsEvent}
+use Rattle.schedule_text.specs.Faults.{IsFault, IsFaulty, IsFaultAfter, HasFault}
+use Rattle.schedule_text.specs.Places.{IsInPlace, HasRoom, is_built_line}
 
 -- what stands before the first byte of this value, and what follows it
 pub record IsCut (bytes : List ℕ) (byte : ℕ) (front back : List ℕ) : Type 0 where
@@ -22,79 +32,87 @@ abbrev pub Reads : {A : Type 0} → (A → Type 0) → (A → List ℕ) → List
 Reads {A} is_right text bytes found =
     MatchOption found ((value : A) → is_right value → bytes ≢ text value) (λ value. is_right value × (bytes ≡ text value))
 
--- a number that an event may have
-abbrev pub IsEventNumber : ℕ → Type 0
-IsEventNumber number = (1 ≤ number) × (number ≤ MAX_EVENTS)
+-- a fault of a word in a place of a form
+abbrev pub IsSlotFault : Slot → List ℕ → LineFault → Type 0
+IsSlotFault slot word (Bad reason) = IsFaulty slot word reason
+IsSlotFault slot word NoMemory = Unit {0}
 
--- the name and the value are bytes
-pub record IsPreference (preference : Preference) : Type 0 where
-  pub name_is : AreBytes preference.name
-  pub value_is : AreBytes preference.value
+-- a fault of words that fit a form
+abbrev pub IsFormFault : List Slot → List (List ℕ) → LineFault → Type 0
+IsFormFault form words (Bad reason) = HasFault form words reason
+IsFormFault form words NoMemory = Unit {0}
 
--- a known event whose line has no more than fixed words
-abbrev pub IsTurn : Event → Type 0
-IsTurn (Edit client edit) = ⊥
-IsTurn (Turn client kind) = IsKnown (Turn client kind)
-IsTurn (Gather client kind) = IsKnown (Gather client kind)
-IsTurn (Post client kind) = IsKnown (Post client kind)
-IsTurn (Offer client) = IsKnown (Offer client)
-IsTurn (Deliver event) = ⊥
-IsTurn (Answer event) = ⊥
-IsTurn (Cut client kept edit) = ⊥
-IsTurn (Ask client) = ⊥
-IsTurn (Lose client) = ⊥
-IsTurn (Crash client) = ⊥
-IsTurn (SetPass client pass) = ⊥
-IsTurn (GivePass client pass) = ⊥
+-- a fault of words where some forms may stand
+abbrev pub IsFaultIn : List (List Slot) → List (List ℕ) → LineFault → Type 0
+IsFaultIn forms words (Bad reason) = IsFault forms words reason
+IsFaultIn forms words NoMemory = Unit {0}
 
--- a known event that is no edit
-abbrev pub IsStep : Event → Type 0
-IsStep (Edit client edit) = ⊥
-IsStep (Turn client kind) = IsKnown (Turn client kind)
-IsStep (Gather client kind) = IsKnown (Gather client kind)
-IsStep (Post client kind) = IsKnown (Post client kind)
-IsStep (Offer client) = IsKnown (Offer client)
-IsStep (Deliver event) = IsKnown (Deliver event)
-IsStep (Answer event) = IsKnown (Answer event)
-IsStep (Cut client kept edit) = ⊥
-IsStep (Ask client) = ⊥
-IsStep (Lose client) = ⊥
-IsStep (Crash client) = ⊥
-IsStep (SetPass client pass) = ⊥
-IsStep (GivePass client pass) = ⊥
+-- a fault of words after some lines
+abbrev pub IsFaultThere : Option Schedule → List (List ℕ) → LineFault → Type 0
+IsFaultThere before words (Bad reason) = IsFaultAfter before words reason
+IsFaultThere before words NoMemory = Unit {0}
 
--- a fault that tells of a line, and not of memory
-abbrev pub IsRefusal : List ℕ → ParseFault → Type 0
-IsRefusal text (BadLine line reason) = IsRefused text line reason
-IsRefusal text NoMemory = ⊥
+-- What was read is right, and its words after some others are these; or they are at fault where some forms may stand.
+abbrev pub IsReading :
+    {A : Type 0} → List (List ℕ) → List (List Slot) → (A → Type 0) → (A → List (List ℕ)) → List (List ℕ)
+    → Result A LineFault → Type 0
+IsReading front forms is_right spelled words result =
+    MatchResult result (λ value. is_right value × (front ++ words ≡ spelled value)) (λ fault. IsFaultIn forms words fault)
 
--- the lines of some events
-abbrev pub event_lines : List Event → List ℕ
-event_lines events = flat_map (λ event. with_end (event_words event)) events
+-- a line does not begin with a word and a space
+abbrev pub BeginsOther : List ℕ → List ℕ → Type 0
+BeginsOther line word = (rest : List ℕ) → line ≢ word ++ 32 ∷ rest
 
--- these lines are those of so many known events
-pub record AreEventsOf (lines : List ℕ) (events : List Event) : Type 0 where
-  pub are_lines : lines ≡ event_lines events
-  pub known : AllByRecursion IsKnown events
-  pub within : length events ≤ MAX_EVENTS
+-- the first word of an event
+abbrev pub verb_word : Verb → List ℕ
+verb_word Edit = codes "edit"
+verb_word Cut = codes "cut"
+verb_word Turn = codes "turn"
+verb_word Gather = codes "gather"
+verb_word Post = codes "post"
+verb_word Ask = codes "ask"
+verb_word Offer = codes "offer"
+verb_word Lose = codes "lose"
+verb_word Crash = codes "crash"
+verb_word Deliver = codes "deliver"
+verb_word Answer = codes "answer"
+verb_word SetPass = codes "setpass"
+verb_word GivePass = codes "givepass"
 
--- the first of some lines after the number of clients that cannot stand in its place, and why
-pub record IsRefusedAfter (lines : List ℕ) (line : ℕ) (reason : LineReason) : Type 0 where
-  pub events : List Event
-  pub rest : List ℕ
-  pub are_lines : lines ≡ event_lines events ++ rest
-  pub known : AllByRecursion IsKnown events
-  pub within : length events ≤ MAX_EVENTS
-  pub is_next : line ≡ length events + 2
-  pub is_no_line : IsNoLine (length events + 1) rest reason
+-- the first words of all events
+abbrev pub verbs : List Verb
+verbs = Edit ∷ Cut ∷ Turn ∷ Gather ∷ Post ∷ SetPass ∷ GivePass ∷ Ask ∷ Offer ∷ Lose ∷ Crash ∷ Deliver ∷ Answer ∷ []
 
--- a fault in the lines after the number of clients
-abbrev pub IsFaultAfter : List ℕ → ParseFault → Type 0
-IsFaultAfter lines (BadLine line reason) = IsRefusedAfter lines line reason
-IsFaultAfter lines NoMemory = Unit {0}
+-- the forms of what follows the first word of an event
+abbrev pub forms_after_verb : ℕ → ℕ → Verb → List (List Slot)
+forms_after_verb clients passes Edit = after_slot (Between 1 clients) change_forms
+forms_after_verb clients passes Cut = after_slot (Between 1 clients) kept_forms
+forms_after_verb clients passes Turn = after_slot (Between 1 clients) kind_forms
+forms_after_verb clients passes Gather = after_slot (Between 1 clients) kind_forms
+forms_after_verb clients passes Post = after_slot (Between 1 clients) kind_forms
+forms_after_verb clients passes Ask = client_forms clients
+forms_after_verb clients passes Offer = client_forms clients
+forms_after_verb clients passes Lose = client_forms clients
+forms_after_verb clients passes Crash = client_forms clients
+forms_after_verb clients passes Deliver = number_forms
+forms_after_verb clients passes Answer = number_forms
+forms_after_verb clients passes SetPass = pass_forms clients passes
+forms_after_verb clients passes GivePass = pass_forms clients passes
 
--- a fault at a whole line after so many events
-abbrev pub IsFaultAt : ℕ → List ℕ → ParseFault → Type 0
-IsFaultAt before words (BadLine line reason) =
-    (line ≡ before + 2) × (reason ≡ Later) × (MayStand (before + 1) words → ⊥)
-IsFaultAt before words NoMemory = Unit {0}
+-- a fault of a line as one of a text
+abbrev pub fault_at : ℕ → LineFault → ParseFault
+fault_at line (Bad reason) = BadLine line reason
+fault_at line NoMemory = WantsMemory
+
+-- a fault of the line after those of a schedule
+abbrev pub IsFaultNext : Schedule → List (List ℕ) → ParseFault → Type 0
+IsFaultNext before words (BadLine line reason) =
+    (line ≡ length (lines_of before) + 1) × IsFaultAfter (Some before) words reason
+IsFaultNext before words WantsMemory = Unit {0}
+
+-- a fault that is told before that of a number in front: that of the form, and want of memory
+abbrev pub early_fault : {A : Type 0} → Result A LineFault → Option LineFault
+early_fault (Ok value) = None
+early_fault (Err NoMemory) = Some NoMemory
+early_fault (Err (Bad Form)) = Some (Bad Form)
+early_fault (Err (Bad reason)) = None

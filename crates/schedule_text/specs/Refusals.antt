@@ -1,51 +1,53 @@
 -- Which line of a text is the first that cannot stand in its place, and why.
-use Rattle.std.specs.Prelude.{◌≡◌, ◌≢◌, ◌⊎◌, ℕ, zero, suc, ◌+◌, ◌<◌, List, [], ◌∷◌, ◌++◌, length}
-use Rattle.std.specs.List.{AllByRecursion, flat_map}
-use Rattle.sync_model.specs.declared.event.Event.{Event}
+use Rattle.std.specs.Prelude.{◌≡◌, ◌≢◌, ◌⊎◌, ℕ, ◌+◌, ◌==◌, List, [], ◌∷◌, ◌++◌, length, Option, Some, None}
+use Rattle.std.specs.List.{AllByRecursion, slice_split}
+use Rattle.sync_model.specs.declared.event.Schedule.{Schedule}
 use Rattle.schedule_text.specs.declared.fault.LineReason.{LineReason}
-use Rattle.schedule_text.specs.declared.fault.LineReason.TheVariants.{End, Later}
-use Rattle.schedule_text.specs.Lines.{clients_words, event_words, with_end}
-use Rattle.schedule_text.specs.Spelling.{IsKnown, MAX_EVENTS}
+use Rattle.schedule_text.specs.declared.fault.LineReason.TheVariants.{End, Form, Number, Range, Word, Many, Later}
+use Rattle.schedule_text.specs.Lines.{lines_of, with_end}
+use Rattle.schedule_text.specs.Faults.{IsFaultAfter}
+use Rattle.schedule_text.specs.Spelling.{Spells}
 
--- these words are a line, whose end stands nowhere in it
+-- no line end stands in these bytes
 abbrev pub HasNoEnd : List ℕ → Type 0
-HasNoEnd words = AllByRecursion (λ byte. byte ≢ 10) words
+HasNoEnd bytes = AllByRecursion (λ byte. byte ≢ 10) bytes
 
--- the words of an event that this stage knows
-pub record AreEventWords (words : List ℕ) : Type 0 where
-  pub event : Event
-  pub is_known : IsKnown event
-  pub are_words : words ≡ event_words event
+-- the words of a line, which are the pieces between single spaces
+abbrev pub words_of : List ℕ → List (List ℕ)
+words_of line = slice_split (λ byte. byte == 32) line
 
--- These words may stand at a line, counted from 0: the number of clients, then the events.
-abbrev pub MayStand : ℕ → List ℕ → Type 0
-MayStand zero words = words ≡ clients_words 1
-MayStand (suc before) words = (before < MAX_EVENTS) × AreEventWords words
+-- a whole line whose words cannot stand after some lines, for a reason
+pub record IsWrongLine (before : Option Schedule) (rest : List ℕ) (reason : LineReason) : Type 0 where
+  pub line : List ℕ
+  pub more : List ℕ
+  pub is_rest : rest ≡ with_end line ++ more
+  pub has_no_end : HasNoEnd line
+  pub is_fault : IsFaultAfter before (words_of line) reason
 
--- each of some lines may stand, from a line on
-abbrev pub MayStandFrom : ℕ → List (List ℕ) → Type 0
-MayStandFrom number [] = Unit {0}
-MayStandFrom number (words ∷ lines) = MayStand number words × MayStandFrom (suc number) lines
+-- What stands after some lines is no line: bytes without a line end; or no bytes at all in place of the first
+-- line; or else a line whose words cannot stand there.
+abbrev pub IsNoLine : Option Schedule → List ℕ → LineReason → Type 0
+IsNoLine before rest End = (rest ≢ []) × HasNoEnd rest
+IsNoLine before rest Form = ((before ≡ None) × (rest ≡ [])) ⊎ IsWrongLine before rest Form
+IsNoLine before rest reason = IsWrongLine before rest reason
 
--- a whole line stands here that may not stand at this place
-pub record HasWrongLine (number : ℕ) (rest : List ℕ) : Type 0 where
-  pub words : List ℕ
-  pub after : List ℕ
-  pub is_rest : rest ≡ with_end words ++ after
-  pub has_no_end : HasNoEnd words
-  pub may_not_stand : MayStand number words → ⊥
+-- a text is no line at all, or spells what stands before
+abbrev pub SpellsBefore : List ℕ → Option Schedule → Type 0
+SpellsBefore text None = text ≡ []
+SpellsBefore text (Some before) = Spells text before
 
--- What stands from a line on is no line there: bytes without a line end; or else no bytes at all in place of
--- the first line, or words that may not stand there.
-abbrev pub IsNoLine : ℕ → List ℕ → LineReason → Type 0
-IsNoLine number rest End = (rest ≢ []) × HasNoEnd rest
-IsNoLine number rest Later = ((number ≡ 0) × (rest ≡ [])) ⊎ HasWrongLine number rest
+-- how many lines stand before
+abbrev pub lines_before : Option Schedule → ℕ
+lines_before None = 0
+lines_before (Some before) = length (lines_of before)
 
--- the first line of a text that cannot stand in its place, counted from 1, and why
+-- The first line of a text that cannot stand in its place, counted from 1, and why: the lines before it are no
+-- line at all, or those of a schedule.
 pub record IsRefused (text : List ℕ) (line : ℕ) (reason : LineReason) : Type 0 where
-  pub before : List (List ℕ)
+  pub before : Option Schedule
+  pub front : List ℕ
   pub rest : List ℕ
-  pub is_text : text ≡ flat_map with_end before ++ rest
-  pub may_stand : MayStandFrom 0 before
-  pub is_next : line ≡ length before + 1
-  pub is_no_line : IsNoLine (length before) rest reason
+  pub is_text : text ≡ front ++ rest
+  pub is_before : SpellsBefore front before
+  pub is_next : line ≡ lines_before before + 1
+  pub is_no_line : IsNoLine before rest reason

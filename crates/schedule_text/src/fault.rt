@@ -6,12 +6,23 @@ use std::error::Error;
 use std::fmt;
 use wire_fields::NoMemory;
 
-/// Why a line cannot stand in its place.
+/// Why a line cannot stand in its place. Where several fit, the first of them is told, and of several
+/// faulty words the leftmost.
 #[derive(Clone, Copy, Debug, PartialEq, Eq)]
 pub enum LineReason {
     /// It has no line end.
     End,
-    /// It is none of the lines that this stage of the engine knows.
+    /// Its fixed words, or the number of its words, fit no line that may stand here.
+    Form,
+    /// A word spells no decimal number where one must stand.
+    Number,
+    /// A number is too small or too great.
+    Range,
+    /// A word is not the one spelling of a text.
+    Word,
+    /// There are already as many lines of this sort as there may be.
+    Many,
+    /// This stage of the engine does not know the line yet.
     Later,
 }
 
@@ -23,11 +34,24 @@ pub enum ParseFault {
     NoMemory,
 }
 
+/// Why a line was not read.
+#[derive(Clone, Copy)]
+pub(crate) enum LineFault {
+    /// It cannot stand.
+    Bad(LineReason),
+    NoMemory,
+}
+
 impl fmt::Display for LineReason {
     fn fmt<W: fmt::Write>(&self, f: &mut fmt::Formatter<W>) -> fmt::Result {
         match self {
             LineReason::End => f.write_str("it has no line end"),
-            LineReason::Later => f.write_str("no such line is known"),
+            LineReason::Form => f.write_str("no line of this form may stand here"),
+            LineReason::Number => f.write_str("a word is no number"),
+            LineReason::Range => f.write_str("a number is out of range"),
+            LineReason::Word => f.write_str("a word is no text"),
+            LineReason::Many => f.write_str("there are too many lines of this sort"),
+            LineReason::Later => f.write_str("this line is not known yet"),
         }
     }
 }
@@ -64,5 +88,15 @@ impl From<NoMemory> for ParseFault {
 
     fn from(_error: NoMemory) -> ParseFault {
         ParseFault::NoMemory
+    }
+}
+
+impl From<NoMemory> for LineFault {
+    ghost use Rattle.schedule_text.specs.declared.fault.LineFault.TheVariants.{NoMemory as LineMemory};
+
+    ghost from_gives = { λ _ fault. fault ≡ LineMemory };
+
+    fn from(_error: NoMemory) -> LineFault {
+        LineFault::NoMemory
     }
 }

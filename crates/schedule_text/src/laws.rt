@@ -1,6 +1,6 @@
 //! What holds of texts, whoever reads them.
 
-ghost use Rattle.schedule_text.specs.Laws.{SpellsOneSchedule, RefusesOneLine, RefusesNoSchedule};
+ghost use Rattle.schedule_text.specs.Laws.{SpellsOneSchedule, RefusesOneLine, RefusesNoSchedule, IsReadBack};
 
 /// A text spells at most one schedule.
 pub fn spells_one_schedule()
@@ -15,4 +15,9 @@ pub fn refuses_one_line()
 /// A text that spells a schedule is not refused.
 pub fn refuses_no_schedule()
     ensures { RefusesNoSchedule }
+{}
+
+/// The text of a schedule that this stage knows spells it, and no other schedule.
+pub fn texts_are_read_back()
+    ensures { IsReadBack }
 {}

@@ -1,102 +1,110 @@
-//! The lines of a schedule.
+//! A schedule from its text.
 
-ghost use Rattle.std.specs.Prelude.{◌≡◌, ◌≤◌, ◌<◌, ◌++◌, ℕ, Ok, Err, IfOk, IfErr, MatchResult};
+ghost use Rattle.std.specs.Prelude.{◌≡◌, ◌≤◌, ◌∷◌, ◌++◌, ◌+◌, ℕ, Some, None, Ok, Err, length, IfOk, IfErr, MatchResult};
 ghost use Rattle.sync_model.specs.declared.event.Schedule.{Schedule as Plan};
 ghost use Rattle.schedule_text.specs.declared.fault.LineReason.{LineReason as Reason};
-ghost use Rattle.schedule_text.specs.Lines.{clients_words, event_words, with_end};
-ghost use Rattle.schedule_text.specs.Spelling.{IsKnown, MAX_EVENTS, Spells};
-ghost use Rattle.schedule_text.specs.Refusals.{IsRefused};
+ghost use Rattle.schedule_text.specs.declared.line.Line.TheVariants.{Clients};
+ghost use Rattle.schedule_text.specs.Lines.{line_text, line_words, lines_of};
+ghost use Rattle.schedule_text.specs.Limits.{MAX_CLIENTS, MAX_EVENTS, MAX_PASSES};
+ghost use Rattle.schedule_text.specs.Spelling.{IsUpTo, Spells};
+ghost use Rattle.schedule_text.specs.Refusals.{IsRefused, words_of};
 ghost use Rattle.schedule_text.specs.Answers.{IsUnlessNoMemory, IsFaultOf};
-ghost use Rattle.schedule_text.specs.Reading.{AreEventsOf, IsFaultAfter, IsFaultAt, IsRefusal};
+ghost use Rattle.schedule_text.specs.Reading.{IsFaultNext, fault_at};
+ghost use Rattle.schedule_text.specs.Places.{MayStand};
 
-use crate::fault::{LineReason, ParseFault};
-use crate::line::event_of;
-use crate::number::EVENT_LIMIT;
-use crate::pieces::{are_same, cut_at};
+use crate::fault::{LineFault, LineReason, ParseFault};
+use crate::line::Line;
+use crate::pieces::cut_at;
+use crate::place::{clients_of, put_line, standing_line};
 use std::alloc::Global;
-use sync_model::{Event, Schedule};
+use sync_model::Schedule;
 use wire_fields::List;
 
-/// What follows the first line, which says that there is one client.
-fn after_clients(bytes: &[u8]) -> Result<&[u8], ParseFault>
-    ensures { MatchResult result (λ rest. bytes.now ≡ with_end (clients_words 1) ++ rest.now)
-        (λ fault. IsRefusal bytes.now fault) }
+/// A fault of a line as one of a text.
+fn at_line(fault: LineFault, line: u64) -> ParseFault
+    ensures { result ≡ fault_at line fault }
 {
-    let line = 1;
-    let Some((words, rest)) = cut_at(bytes, b'\n') else {
+    match fault {
+        LineFault::Bad(reason) => ParseFault::BadLine { line, reason },
+        LineFault::NoMemory => ParseFault::NoMemory,
+    }
+}
+
+/// The number of the line after those of a schedule.
+fn next_line(before: &Schedule) -> u64
+    requires few_passes { length before.now.passes ≤ MAX_PASSES }
+    requires few_events { length before.now.events ≤ MAX_EVENTS }
+    ensures { result ≡ length (lines_of before.now) + 1 }
+{
+    let seeds = u64::from(before.seed != 0);
+    2 + seeds + before.passes.len() as u64 + before.events.len() as u64
+}
+
+/// How many clients the first line says, and what follows that line.
+fn first_line(bytes: &[u8]) -> Result<(u32, &[u8]), ParseFault>
+    ensures { MatchResult result
+        (λ x. IsUpTo MAX_CLIENTS x.0 × (bytes.now ≡ line_text (Clients x.0) ++ x.1.now))
+        (λ fault. IsFaultOf bytes.now fault) }
+{
+    let Some((line, rest)) = cut_at(bytes, b'\n') else {
         let reason = if bytes.is_empty() {
-            LineReason::Later
+            LineReason::Form
         } else {
             LineReason::End
         };
-        return Err(ParseFault::BadLine { line, reason });
+        return Err(ParseFault::BadLine { line: 1, reason });
     };
-    if !are_same(words, b"clients 1") {
-        let reason = LineReason::Later;
-        return Err(ParseFault::BadLine { line, reason });
+    match clients_of(line) {
+        Ok(clients) => Ok((clients, rest)),
+        Err(fault) => Err(at_line(fault, 1)),
     }
-    Ok(rest)
 }
 
-/// The event of a line, after so many events before it.
-fn event_at(alloc: Global, words: &[u8], before: usize) -> Result<Event, ParseFault>
-    requires { before ≤ MAX_EVENTS }
+/// What the next line says, if it may stand there.
+fn line_after(alloc: Global, before: &Schedule, line: &[u8]) -> Result<Line, ParseFault>
+    requires few_passes { length before.now.passes ≤ MAX_PASSES }
+    requires few_events { length before.now.events ≤ MAX_EVENTS }
     ensures { MatchResult result
-        (λ event. (before < MAX_EVENTS) × IsKnown event × (words.now ≡ event_words event))
-        (λ fault. IsFaultAt before words.now fault) }
+        (λ said. MayStand (Some before.now) said × (words_of line.now ≡ line_words said))
+        (λ fault. IsFaultNext before.now (words_of line.now) fault) }
 {
-    let bad_line = ParseFault::BadLine {
-        line: before as u64 + 2,
-        reason: LineReason::Later,
-    };
-    if before == EVENT_LIMIT {
-        return Err(bad_line);
+    match standing_line(alloc, before, line) {
+        Ok(said) => Ok(said),
+        Err(fault) => Err(at_line(fault, next_line(before))),
     }
-    match event_of(alloc, words)? {
-        Some(event) => Ok(event),
-        None => Err(bad_line),
-    }
-}
-
-/// The events of all lines but the first.
-fn events_of(alloc: Global, lines: &[u8]) -> Result<Vec<Event>, ParseFault>
-    ensures { MatchResult result (λ events. AreEventsOf lines.now events.items)
-        (λ fault. IsFaultAfter lines.now fault) }
-{
-    let mut events = Vec::new(alloc);
-    let mut rest = lines;
-    while !rest.is_empty() {
-        let Some((words, after)) = cut_at(rest, b'\n') else {
-            return Err(ParseFault::BadLine {
-                line: events.len() as u64 + 2,
-                reason: LineReason::End,
-            });
-        };
-        let event = event_at(alloc, words, events.len())?;
-        events.push(event)?;
-        rest = after;
-    }
-    Ok(events)
 }
 
 /// The schedule that a text spells, or its first line that cannot stand.
 fn schedule_of(alloc: Global, bytes: &[u8]) -> Result<Schedule, ParseFault>
     ensures { MatchResult result (λ schedule. Spells bytes.now schedule) (λ fault. IsFaultOf bytes.now fault) }
 {
-    let lines = after_clients(bytes)?;
-    let events = events_of(alloc, lines)?;
-    Ok(Schedule {
-        clients: 1,
+    let (clients, lines) = first_line(bytes)?;
+    let mut schedule = Schedule {
+        clients,
         seed: 0,
         passes: List::new(alloc),
-        events: List::from_vec(events),
-    })
+        events: List::new(alloc),
+    };
+    let mut rest = lines;
+    while !rest.is_empty() {
+        let Some((line, more)) = cut_at(rest, b'\n') else {
+            let line = next_line(&schedule);
+            return Err(ParseFault::BadLine {
+                line,
+                reason: LineReason::End,
+            });
+        };
+        let said = line_after(alloc, &schedule, line)?;
+        put_line(&mut schedule, said)?;
+        rest = more;
+    }
+    Ok(schedule)
 }
 
 /// The schedule that a text spells.
 ///
 /// It looks at each byte a constant number of times, so it takes time linear in the length of the text,
-/// and copies only the names and values of preferences. A text that spells no schedule is refused at
+/// and copies only the texts of the schedule, once. A text that spells no schedule is refused at
 /// the first line that cannot stand in its place. Memory may be wanting at any line.
 pub fn parse_schedule(alloc: Global, bytes: &[u8]) -> Result<Schedule, ParseFault>
     // What is read is spelled so.

@@ -1,12 +1,14 @@
 //! Words that spell any bytes.
 
-ghost use Rattle.std.specs.Prelude.{◌≡◌, ◌≢◌, ◌<◌, ◌/◌, ◌%◌, ◌∷◌, ◌++◌, List, ℕ, true, false, IfOk, MatchOption};
+ghost use Rattle.std.specs.Prelude.{◌≡◌, ◌≢◌, ◌<◌, ◌/◌, ◌%◌, ◌∷◌, ◌++◌, List, ℕ, true, false, IfOk, MatchOption, MatchResult};
 ghost use Rattle.std.specs.List.{flat_map};
 ghost use Rattle.std.specs.Fmt.{digit_glyph};
 ghost use Rattle.sync_model.specs.Text.{is_plain, byte_text, text_word};
+ghost use Rattle.schedule_text.specs.Grammar.{AnyText};
 ghost use Rattle.schedule_text.specs.Spelling.{AreBytes};
-ghost use Rattle.schedule_text.specs.Reading.{Reads};
+ghost use Rattle.schedule_text.specs.Reading.{IsSlotFault, Reads};
 
+use crate::fault::{LineFault, LineReason};
 use crate::pieces::are_same;
 use std::alloc::Global;
 use wire_fields::{NoMemory, Octets};
@@ -85,7 +87,7 @@ fn bytes_of(alloc: Global, word: &[u8]) -> Result<Option<Vec<u8>>, NoMemory>
 }
 
 /// The text that a word spells.
-pub(crate) fn text_of(alloc: Global, word: &[u8]) -> Result<Option<Octets>, NoMemory>
+fn text_of(alloc: Global, word: &[u8]) -> Result<Option<Octets>, NoMemory>
     ensures { IfOk result (λ found. Reads AreBytes text_word word.now found) }
 {
     if word.is_empty() {
@@ -100,5 +102,16 @@ pub(crate) fn text_of(alloc: Global, word: &[u8]) -> Result<Option<Octets>, NoMe
     match bytes_of(alloc, word)? {
         Some(bytes) => Ok(Some(Octets::from_vec(bytes))),
         None => Ok(None),
+    }
+}
+
+/// The text of a word that must spell one.
+pub(crate) fn text_in(alloc: Global, word: &[u8]) -> Result<Octets, LineFault>
+    ensures { MatchResult result (λ text. AreBytes text × (word.now ≡ text_word text))
+        (λ fault. IsSlotFault AnyText word.now fault) }
+{
+    match text_of(alloc, word)? {
+        Some(text) => Ok(text),
+        None => Err(LineFault::Bad(LineReason::Word)),
     }
 }

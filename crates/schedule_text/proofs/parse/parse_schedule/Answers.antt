@@ -1,4 +1,4 @@
-use Rattle.schedule_text.proofs.Refusing.{is_taken, is_told}
+use Rattle.schedule_text.proofs.TheLaws.{is_taken, is_told}
 use Rattle.schedule_text.proofs.parse.parse_schedule.Goals as goal
 
 pub returns-clause-taken : goal.returns-clause-taken
