@@ -1,12 +1,15 @@
 ghost use Rattle.std.specs.Prelude.{◌≡◌, [], ◌∷◌, ◌++◌, OnOk, OnErr};
 ghost use Rattle.std.specs.Fmt.{decimal};
 ghost use Rattle.sync_model.specs.Text.{kind_word};
-ghost use Rattle.sync_model.specs.Settings.{names};
+ghost use Rattle.sync_model.specs.declared.message.Entry.{Entry};
+ghost use Rattle.sync_model.specs.declared.message.Content.{Content as AnyContent};
+ghost use Rattle.run_setting.specs.Hashed.{hashed};
 ghost use Rattle.sync_model.specs.Report.{pass_number, row_word, lock_text, value_text, events_text, server_text, entity_line, client_text, side_text, value_line_text, fate_text, fate_line, totals_text};
 ghost use Rattle.text_lines.specs.Continued.{Continues};
 
 use crate::values::{write_lock, write_value};
-use sync_model::{Content, Entry, Fate, Kind, Row, Value};
+use client_tags::TagHash;
+use sync_model::{Content, Fate, Kind, Row, Value};
 use text_lines::{Piece, kind_name, write_pieces, write_text};
 use wire_fields::NoMemory;
 
@@ -30,7 +33,7 @@ fn write_owner(out: &mut Vec<u8>, subject: &[u8], client: u32, kind: Kind) -> Re
 /// A value as the last words of a line, and the line's end.
 #[tactic(auto, using(text_lines::proofs::Continuing::continues_after))]
 fn write_last_value(out: &mut Vec<u8>, value: &Value) -> Result<(), NoMemory>
-    ensures ok { OnOk result (out.new.items ≡ out.old.items ++ 32 ∷ value_text names (pass_number names []) value.now ++ 10 ∷ []) }
+    ensures ok { OnOk result (out.new.items ≡ out.old.items ++ 32 ∷ value_text hashed (pass_number hashed []) value.now ++ 10 ∷ []) }
     ensures err { OnErr result (Continues out.old.items out.new.items) }
 {
     write_text(out, b" ")?;
@@ -74,14 +77,18 @@ pub fn write_server_line(out: &mut Vec<u8>, version: u64, keys: u64) -> Result<(
     )
 }
 
-/// A write of this version, in time linear in its texts.
-#[tactic(auto, using(text_lines::proofs::Continuing::continues_after), unfolding(sync_model::specs::Report::entity_line, sync_model::specs::Settings::names))]
+/// A write of this version, of a key of this type and hash, in time linear in its texts.
+#[tactic(auto, using(text_lines::proofs::Continuing::continues_after), unfolding(sync_model::specs::Report::entity_line, run_setting::specs::Hashed::hashed))]
 pub fn write_entity_line(
     out: &mut Vec<u8>,
     version: u64,
-    write: &Entry<Content>,
+    kind: Kind,
+    hash: &TagHash,
+    content: &Content,
 ) -> Result<(), NoMemory>
-    ensures ok { OnOk result (out.new.items ≡ out.old.items ++ entity_line names (pass_number names []) version write.now) }
+    ensures ok { (write : Entry AnyContent) → write.key ≡ record { kind = kind; hash = hash.now.bytes }
+        → write.content ≡ content.now
+        → OnOk result (out.new.items ≡ out.old.items ++ entity_line hashed (pass_number hashed []) version write) }
     ensures err { OnErr result (Continues out.old.items out.new.items) }
 {
     write_pieces(
@@ -90,14 +97,13 @@ pub fn write_entity_line(
             Piece::Text(b"entity "),
             Piece::Number(version),
             Piece::Text(b" "),
-            Piece::Text(kind_name(write.key.kind)),
-            Piece::Text(b" "),
-            Piece::Word(write.key.hash.as_slice()),
+            Piece::Text(kind_name(kind)),
             Piece::Text(b" "),
         ],
     )?;
-    write_lock(out, &write.content.lock)?;
-    write_last_value(out, &write.content.value)
+    write_pieces(out, &[Piece::Text(&hash.text()), Piece::Text(b" ")])?;
+    write_lock(out, &content.lock)?;
+    write_last_value(out, &content.value)
 }
 
 /// Whether a client is caught up.
@@ -171,17 +177,17 @@ pub fn write_side_line(
 
 /// What a client has of a key: the version that it knows, and its value. It takes time linear in the
 /// texts.
-#[tactic(auto, using(text_lines::proofs::Continuing::continues_after), unfolding(sync_model::specs::Report::value_line_text, sync_model::specs::Settings::names))]
+#[tactic(auto, using(text_lines::proofs::Continuing::continues_after), unfolding(sync_model::specs::Report::value_line_text, run_setting::specs::Hashed::hashed))]
 pub fn write_value_line(
     out: &mut Vec<u8>,
     number: u32,
     kind: Kind,
-    hash: &[u8],
+    hash: &TagHash,
     known: u64,
     own: &Value,
 ) -> Result<(), NoMemory>
     ensures ok { OnOk result (out.new.items ≡
-        out.old.items ++ value_line_text names (pass_number names []) number kind hash.now known own.now) }
+        out.old.items ++ value_line_text hashed (pass_number hashed []) number kind hash.now.bytes known own.now) }
     ensures err { OnErr result (Continues out.old.items out.new.items) }
 {
     write_owner(out, b"value ", number, kind)?;
@@ -189,7 +195,7 @@ pub fn write_value_line(
         out,
         &[
             Piece::Text(b" "),
-            Piece::Word(hash),
+            Piece::Text(&hash.text()),
             Piece::Text(b" known "),
             Piece::Number(known),
         ],

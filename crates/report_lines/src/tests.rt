@@ -1,7 +1,8 @@
 use super::*;
+use client_tags::TagHash;
 use std::alloc::Global;
 use std::test::Fail;
-use sync_model::{Content, Entry, Fate, Key, Kind, Row, Value};
+use sync_model::{Content, Fate, Kind, Row, Value};
 use sync_values::{Password, Preference};
 use wire_fields::{NoMemory, Octets};
 
@@ -59,27 +60,47 @@ fn preference(alloc: Global) -> Result<Value, NoMemory> {
     }))
 }
 
+// The hash of the preference `a`: SHA-1 over b2 b4 12 00 and `a`.
+const HASH: TagHash = TagHash {
+    bytes: [
+        0x2b, 0x1d, 0xa3, 0x3b, 0xbc, 0x55, 0xab, 0xcf, 0xb7, 0x94, 0x96, 0x5e, 0x8a, 0xf4, 0x4f,
+        0x38, 0xd8, 0x68, 0xec, 0x46,
+    ],
+};
+
 #[test]
 fn lines_of_values(rt: HostRuntime) -> Result<(), Fail> {
-    let write = Entry {
-        key: Key {
-            kind: Kind::Preference,
-            hash: Octets::from_slice(rt.alloc(), b"a")?,
-        },
-        version: 0,
-        content: Content {
-            value: preference(rt.alloc())?,
-            number: 1,
-            lock: None,
-            draw: None,
-        },
+    let content = Content {
+        value: preference(rt.alloc())?,
+        number: 1,
+        lock: None,
+        draw: None,
     };
     let mut out = Vec::new(rt.alloc());
-    write_entity_line(&mut out, 1, &write)?;
-    write_value_line(&mut out, 1, Kind::Preference, b"a", 1, &write.content.value)?;
+    write_entity_line(&mut out, 1, Kind::Preference, &HASH, &content)?;
+    write_value_line(&mut out, 1, Kind::Preference, &HASH, 1, &content.value)?;
     assert_eq!(rt;
         out.as_slice(),
-        b"entity 1 preference a plain a 1\nvalue 1 preference a known 1 a 1\n".as_slice()
+        b"entity 1 preference Kx2jO7xVq8+3lJZeivRPONho7EY= plain a 1\n\
+          value 1 preference Kx2jO7xVq8+3lJZeivRPONho7EY= known 1 a 1\n"
+            .as_slice()
+    );
+    Ok(())
+}
+
+// The digest of the empty text (FIPS 180-4).
+const DIGEST: [u8; 32] = [
+    0xe3, 0xb0, 0xc4, 0x42, 0x98, 0xfc, 0x1c, 0x14, 0x9a, 0xfb, 0xf4, 0xc8, 0x99, 0x6f, 0xb9, 0x24,
+    0x27, 0xae, 0x41, 0xe4, 0x64, 0x9b, 0x93, 0x4c, 0xa4, 0x95, 0x99, 0x1b, 0x78, 0x52, 0xb8, 0x55,
+];
+
+#[test]
+fn a_digest_has_64_digits(rt: HostRuntime) -> Result<(), Fail> {
+    let mut out = Vec::new(rt.alloc());
+    write_digest_line(&mut out, &DIGEST)?;
+    assert_eq!(rt;
+        out.as_slice(),
+        b"digest e3b0c44298fc1c149afbf4c8996fb92427ae41e4649b934ca495991b7852b855\n".as_slice()
     );
     Ok(())
 }

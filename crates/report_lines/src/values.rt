@@ -1,5 +1,5 @@
 ghost use Rattle.std.specs.Prelude.{◌≡◌, [], ◌++◌, OnOk, OnErr};
-ghost use Rattle.sync_model.specs.Settings.{names};
+ghost use Rattle.run_setting.specs.Hashed.{hashed};
 ghost use Rattle.sync_model.specs.Report.{preference_text, password_text, pass_number, key_text, key_numbers, nigori_text, value_text, lock_text};
 ghost use Rattle.text_lines.specs.Continued.{Continues};
 
@@ -49,7 +49,7 @@ fn write_password(out: &mut Vec<u8>, password: &Password) -> Result<(), NoMemory
 // The number of a key. No passphrase is known, so it is 0.
 #[tactic(auto, unfolding(sync_model::specs::Report::key_text))]
 fn write_key(out: &mut Vec<u8>, key: &NigoriKey) -> Result<(), NoMemory>
-    ensures ok { OnOk result (out.new.items ≡ out.old.items ++ key_text names (pass_number names []) key.now) }
+    ensures ok { OnOk result (out.new.items ≡ out.old.items ++ key_text hashed (pass_number hashed []) key.now) }
     ensures err { OnErr result (Continues out.old.items out.new.items) }
 {
     let _ = key;
@@ -58,7 +58,7 @@ fn write_key(out: &mut Vec<u8>, key: &NigoriKey) -> Result<(), NoMemory>
 
 #[tactic(auto, using(text_lines::proofs::Continuing::continues_after))]
 fn write_keys(out: &mut Vec<u8>, keys: &[NigoriKey]) -> Result<(), NoMemory>
-    ensures ok { OnOk result (out.new.items ≡ out.old.items ++ key_numbers names (pass_number names []) keys.now) }
+    ensures ok { OnOk result (out.new.items ≡ out.old.items ++ key_numbers hashed (pass_number hashed []) keys.now) }
     ensures err { OnErr result (Continues out.old.items out.new.items) }
 {
     for key in keys {
@@ -69,7 +69,7 @@ fn write_keys(out: &mut Vec<u8>, keys: &[NigoriKey]) -> Result<(), NoMemory>
 
 #[tactic(auto, using(text_lines::proofs::Continuing::continues_after), unfolding(sync_model::specs::Report::nigori_text))]
 fn write_nigori(out: &mut Vec<u8>, nigori: &NigoriValue) -> Result<(), NoMemory>
-    ensures ok { OnOk result (out.new.items ≡ out.old.items ++ nigori_text names (pass_number names []) nigori.now) }
+    ensures ok { OnOk result (out.new.items ≡ out.old.items ++ nigori_text hashed (pass_number hashed []) nigori.now) }
     ensures err { OnErr result (Continues out.old.items out.new.items) }
 {
     write_pieces(
@@ -85,9 +85,9 @@ fn write_nigori(out: &mut Vec<u8>, nigori: &NigoriValue) -> Result<(), NoMemory>
 
 /// A value as the words of a line, in time linear in its texts: `absent`, a preference's name and value,
 /// the seven words of a login, or the numbers of a profile's keys, which are 0.
-#[tactic(auto, unfolding(sync_model::specs::Report::value_text, sync_model::specs::Settings::names))]
+#[tactic(auto, unfolding(sync_model::specs::Report::value_text, run_setting::specs::Hashed::hashed))]
 pub fn write_value(out: &mut Vec<u8>, value: &Value) -> Result<(), NoMemory>
-    ensures ok { OnOk result (out.new.items ≡ out.old.items ++ value_text names (pass_number names []) value.now) }
+    ensures ok { OnOk result (out.new.items ≡ out.old.items ++ value_text hashed (pass_number hashed []) value.now) }
     ensures err { OnErr result (Continues out.old.items out.new.items) }
 {
     match value {
@@ -101,7 +101,7 @@ pub fn write_value(out: &mut Vec<u8>, value: &Value) -> Result<(), NoMemory>
 /// What seals a write. No passphrase is known, so a key has the number 0.
 #[tactic(auto, unfolding(sync_model::specs::Report::lock_text))]
 pub fn write_lock(out: &mut Vec<u8>, lock: &Option<Octets>) -> Result<(), NoMemory>
-    ensures ok { OnOk result (out.new.items ≡ out.old.items ++ lock_text (pass_number names []) lock.now) }
+    ensures ok { OnOk result (out.new.items ≡ out.old.items ++ lock_text (pass_number hashed []) lock.now) }
     ensures err { OnErr result (Continues out.old.items out.new.items) }
 {
     match lock {
