@@ -1,7 +1,8 @@
-pub mod Clients
+pub mod Asked
+pub mod Copies
 pub mod Events
 pub mod Outcomes
-pub mod Parts
 pub mod Reports
 pub mod Servers
+pub mod Steps
 pub mod Worlds

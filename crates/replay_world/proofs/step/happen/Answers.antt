@@ -1,40 +1,49 @@
-use Rattle.std.proofs.Common.{reverse}
-use Rattle.replay_world.specs.Clients.{client_of}
-use Rattle.replay_world.specs.Servers.{history_of}
-use Rattle.replay_world.proofs.WorldLemmas.{edit_steps, turn_steps, gather_steps, post_steps, offer_steps, deliver_steps, answer_steps}
+use Rattle.std.proofs.Common.{◌+◌, reverse, length}
+use Rattle.std.proofs.lemmas.Result.{IfOk-weaker}
+use Rattle.sync_model.specs.Changes.{change_effect}
+use Rattle.sync_model.specs.Receiving.{turn_effect, post_effect}
+use Rattle.sync_model.specs.Sending.{gather_effect, ask_effect, offer_effect}
+use Rattle.run_setting.specs.Hashed.{hashed}
+use Rattle.replay_world.specs.Steps.{Acts, ActsAlone, Asks, Delivers, Receives, Steps}
+use Rattle.replay_world.proofs.StepLemmas.{edit_steps, turn_steps, gather_steps, post_steps, ask_steps, offer_steps, deliver_steps, answer_steps}
 use Rattle.replay_world.proofs.step.happen.Goals as goal
 
-pub returns-in-Edit-clause-stepped : goal.returns-in-Edit-clause-stepped
-returns-in-Edit-clause-stepped c =
-    edit_steps (history_of c.args.server.now) (reverse c.args.outcomes.now) (client_of c.args.client.now) (client_of c.edit.new.self) c.args.settlements.now.items c.edit.new.settlements.items
-    c.edit.result c.args.event.now c.in-Edit.client c.in-Edit.edit c.in-Edit.is c.requires.known c.edit.ensures.happens
+pub returns-in-Edit-clause-steps : goal.returns-in-Edit-clause-steps
+returns-in-Edit-clause-steps c =
+    IfOk-weaker c.edit.result (Acts c.in-Edit.client (change_effect hashed c.in-Edit.client c.in-Edit.change) c.args.clients.now c.edit.new.clients c.args.settlements.now.items c.edit.new.settlements.items) _
+    (λ happened acts. edit_steps c.args.event.now (reverse c.args.happened.now) c.args.server.now c.args.clients.now c.edit.new.clients c.args.settlements.now.items c.edit.new.settlements.items happened c.in-Edit.client c.in-Edit.change c.requires.kept c.in-Edit.is acts) c.edit.ensures.acts
 
-pub returns-in-Turn-clause-stepped : goal.returns-in-Turn-clause-stepped
-returns-in-Turn-clause-stepped c =
-    turn_steps (history_of c.args.server.now) (reverse c.args.outcomes.now) (client_of c.args.client.now) (client_of c.turn.new.self) c.args.settlements.now.items c.turn.new.settlements.items
-    c.turn.result c.args.event.now c.in-Turn.client c.in-Turn.kind c.in-Turn.is c.requires.known c.turn.ensures.happens
+pub returns-in-Turn-clause-steps : goal.returns-in-Turn-clause-steps
+returns-in-Turn-clause-steps c =
+    IfOk-weaker c.turn.result (Acts c.in-Turn.client (turn_effect hashed c.in-Turn.kind) c.args.clients.now c.turn.new.clients c.args.settlements.now.items c.turn.new.settlements.items) _
+    (λ happened acts. turn_steps c.args.event.now (reverse c.args.happened.now) c.args.server.now c.args.clients.now c.turn.new.clients c.args.settlements.now.items c.turn.new.settlements.items happened c.in-Turn.client c.in-Turn.kind c.requires.kept c.in-Turn.is acts) c.turn.ensures.acts
 
-pub returns-in-Gather-clause-stepped : goal.returns-in-Gather-clause-stepped
-returns-in-Gather-clause-stepped c =
-    gather_steps (history_of c.args.server.now) (reverse c.args.outcomes.now) (client_of c.args.client.now) (client_of c.gather.new.self) c.args.settlements.now.items
-    c.gather.result c.args.event.now c.in-Gather.client c.in-Gather.kind c.in-Gather.is c.requires.known c.gather.ensures.happens
+pub returns-in-Gather-clause-steps : goal.returns-in-Gather-clause-steps
+returns-in-Gather-clause-steps c =
+    IfOk-weaker c.gather.result (ActsAlone c.in-Gather.client (gather_effect hashed c.in-Gather.kind) c.args.clients.now c.gather.new.clients) _
+    (λ happened acts. gather_steps c.args.event.now (reverse c.args.happened.now) c.args.server.now c.args.clients.now c.gather.new.clients c.args.settlements.now.items happened c.in-Gather.client c.in-Gather.kind c.requires.kept c.in-Gather.is acts) c.gather.ensures.acts
 
-pub returns-in-Post-clause-stepped : goal.returns-in-Post-clause-stepped
-returns-in-Post-clause-stepped c =
-    post_steps (history_of c.args.server.now) (reverse c.args.outcomes.now) (client_of c.args.client.now) (client_of c.post.new.self) c.args.settlements.now.items
-    c.post.result c.args.event.now c.in-Post.client c.in-Post.kind c.in-Post.is c.requires.known c.post.ensures.happens
+pub returns-in-Post-clause-steps : goal.returns-in-Post-clause-steps
+returns-in-Post-clause-steps c =
+    IfOk-weaker c.post.result (ActsAlone c.in-Post.client (post_effect hashed c.in-Post.kind) c.args.clients.now c.post.new.clients) _
+    (λ happened acts. post_steps c.args.event.now (reverse c.args.happened.now) c.args.server.now c.args.clients.now c.post.new.clients c.args.settlements.now.items happened c.in-Post.client c.in-Post.kind c.requires.kept c.in-Post.is acts) c.post.ensures.acts
 
-pub returns-in-Offer-clause-stepped : goal.returns-in-Offer-clause-stepped
-returns-in-Offer-clause-stepped c =
-    offer_steps (history_of c.args.server.now) c.args.outcomes.now (client_of c.args.client.now) (client_of c.offer.new.self) c.args.settlements.now.items
-    c.offer.result c.args.event.now c.in-Offer.client c.in-Offer.is c.requires.known c.offer.ensures.happens
+pub returns-in-Ask-clause-steps : goal.returns-in-Ask-clause-steps
+returns-in-Ask-clause-steps c =
+    IfOk-weaker c.ask.result (Asks c.in-Ask.client (ask_effect c.in-Ask.client (length c.args.happened.now + 1)) c.args.clients.now c.ask.new.clients) _
+    (λ happened acts. ask_steps c.args.event.now c.args.happened.now c.args.server.now c.args.clients.now c.ask.new.clients c.args.settlements.now.items happened c.in-Ask.client c.requires.kept c.in-Ask.is acts) c.ask.ensures.asks
 
-pub returns-in-Deliver-clause-stepped : goal.returns-in-Deliver-clause-stepped
-returns-in-Deliver-clause-stepped c =
-    deliver_steps (history_of c.args.server.now) (history_of c.deliver.new.server) (reverse c.args.outcomes.now) (client_of c.args.client.now) c.args.settlements.now.items
-    c.deliver.result c.args.event.now c.in-Deliver.event c.in-Deliver.is c.deliver.ensures.delivers
+pub returns-in-Offer-clause-steps : goal.returns-in-Offer-clause-steps
+returns-in-Offer-clause-steps c =
+    IfOk-weaker c.offer.result (Asks c.in-Offer.client (offer_effect c.in-Offer.client (length c.args.happened.now + 1)) c.args.clients.now c.offer.new.clients) _
+    (λ happened acts. offer_steps c.args.event.now c.args.happened.now c.args.server.now c.args.clients.now c.offer.new.clients c.args.settlements.now.items happened c.in-Offer.client c.requires.kept c.in-Offer.is acts) c.offer.ensures.asks
 
-pub returns-in-Answer-clause-stepped : goal.returns-in-Answer-clause-stepped
-returns-in-Answer-clause-stepped c =
-    answer_steps (history_of c.args.server.now) (reverse c.args.outcomes.now) (client_of c.args.client.now) (client_of c.receive.new.client) c.args.settlements.now.items
-    c.receive.result c.args.event.now c.in-Answer.event c.in-Answer.is c.receive.ensures.receives
+pub returns-in-Deliver-clause-steps : goal.returns-in-Deliver-clause-steps
+returns-in-Deliver-clause-steps c =
+    IfOk-weaker c.deliver.result (Delivers (reverse c.args.happened.now) c.in-Deliver.event c.args.server.now c.deliver.new.server) _
+    (λ happened acts. deliver_steps c.args.event.now (reverse c.args.happened.now) c.args.server.now c.deliver.new.server c.args.clients.now c.args.settlements.now.items happened c.in-Deliver.event c.in-Deliver.is acts) c.deliver.ensures.delivers
+
+pub returns-in-Answer-clause-steps : goal.returns-in-Answer-clause-steps
+returns-in-Answer-clause-steps c =
+    IfOk-weaker c.receive.result (Receives c.args.server.now (reverse c.args.happened.now) c.in-Answer.event c.args.clients.now c.receive.new.clients) _
+    (λ happened acts. answer_steps c.args.event.now (reverse c.args.happened.now) c.args.server.now c.args.clients.now c.receive.new.clients c.args.settlements.now.items happened c.in-Answer.event c.requires.kept c.in-Answer.is acts) c.receive.ensures.receives
