@@ -1,9 +1,9 @@
 -- What a replay does with a text.
 use Rattle.std.specs.Prelude.{◌≡◌, ℕ, List, Option}
 use Rattle.sync_model.specs.declared.event.Schedule.{Schedule}
-use Rattle.sync_model.specs.Settings.{names}
-use Rattle.sync_model.specs.Report.{report}
 use Rattle.sync_model.specs.Worlds.{world_of}
+use Rattle.run_setting.specs.Hashed.{hashed}
+use Rattle.replay_world.specs.Reports.{full_report}
 use Rattle.schedule_text.specs.declared.fault.LineReason.{LineReason}
 use Rattle.schedule_text.specs.Spelling.{Spells}
 use Rattle.schedule_text.specs.Refusals.{IsRefused}
@@ -16,9 +16,9 @@ use Rattle.sync_program.specs.Work.{Work}
 abbrev pub MAX_TEXT : ℕ
 MAX_TEXT = 1048576
 
--- the report of the world that a schedule makes
+-- the report of the world that a schedule makes, with the digest of its wire record
 unfoldable pub report_of : Schedule → List ℕ
-report_of schedule = report names (world_of names schedule)
+report_of schedule = full_report (world_of hashed schedule)
 
 -- a text spells a schedule, and this is the report of its world
 pub record IsReplayed (text output : List ℕ) : Type 0 where

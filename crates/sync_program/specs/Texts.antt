@@ -3,7 +3,7 @@ use Rattle.std.specs.Prelude.{ℕ, List, [], ◌∷◌, ◌++◌, codes}
 use Rattle.std.specs.Fmt.{decimal}
 use Rattle.message_fields.specs.declared.fault.MessageFault.{MessageFault}
 use Rattle.schedule_text.specs.declared.fault.LineReason.{LineReason}
-use Rattle.schedule_text.specs.declared.fault.LineReason.TheVariants.{End, Later}
+use Rattle.schedule_text.specs.declared.fault.LineReason.TheVariants.{End, Form, Number, Range, Word, Many, Later}
 use Rattle.message_text.specs.Faults.{fault_text}
 
 -- the words of the command line are none that the program knows
@@ -25,6 +25,11 @@ too_big_line = codes "too big\n"
 -- why a line cannot stand in its place, and the end of the text
 unfoldable pub reason_end : LineReason → List ℕ
 reason_end End = codes ": end\n"
+reason_end Form = codes ": form\n"
+reason_end Number = codes ": number\n"
+reason_end Range = codes ": range\n"
+reason_end Word = codes ": word\n"
+reason_end Many = codes ": many\n"
 reason_end Later = codes ": later\n"
 
 -- the first line that cannot stand in its place, and why

@@ -4,10 +4,11 @@ ghost use Rattle.std.specs.Prelude.{◌≡◌, ◌+◌, ℕ, IfOk, MatchResult};
 ghost use Rattle.outer_edge.specs.Faults.{NeverFalls};
 ghost use Rattle.outer_edge.specs.Source.{GaveUpTo};
 ghost use Rattle.sync_model.specs.declared.event.Schedule.{Schedule as Plan};
-ghost use Rattle.sync_model.specs.Settings.{names};
+ghost use Rattle.run_setting.specs.Hashed.{hashed};
+ghost use Rattle.sync_model.specs.History.{IsBased};
 ghost use Rattle.sync_model.specs.Worlds.{world_of};
 ghost use Rattle.schedule_text.specs.declared.fault.LineReason.{LineReason as Reason};
-ghost use Rattle.schedule_text.specs.Spelling.{IsSchedule, Spells};
+ghost use Rattle.schedule_text.specs.Spelling.{IsSchedule, IsBuiltSchedule, Spells};
 ghost use Rattle.schedule_text.specs.Refusals.{IsRefused};
 ghost use Rattle.sync_program.specs.declared.status.Status.TheVariants.{BadSchedule};
 ghost use Rattle.sync_program.specs.Texts.{bad_schedule_line};
@@ -25,6 +26,7 @@ use schedule_text::{
     Schedule, parse_schedule, refuses_no_schedule, refuses_one_line, spells_one_schedule,
 };
 use std::alloc::Global;
+use sync_model::every_write_is_based;
 use wire_fields::{NoMemory, Octets};
 
 /// How many bytes a schedule may have.
@@ -59,11 +61,14 @@ pub fn run_replay<S: Source, O: Sink>(alloc: Global, input: &mut S, output: &mut
     ensures gave_some { GaveUpTo S.left S.came input.old input.new (MAX_TEXT + 1) }
     ensures reads_never_fall { NeverFalls (S.faults input.old) (S.faults input.new) }
     ensures writes_never_fall { NeverFalls (O.faults output.old) (O.faults output.new) }
+    // Whatever the schedule lists, each write of the server is based on the last one of its key.
+    ensures versions { (schedule : Plan) → IsBased (world_of hashed schedule).history }
 {
-    // The laws of texts, which these calls bring in as facts; they do nothing when they run.
+    // The laws of texts and of the model, which these calls bring in as facts; they do nothing when they run.
     spells_one_schedule();
     refuses_one_line();
     refuses_no_schedule();
+    every_write_is_based();
     replay(alloc, input, output)
 }
 
@@ -101,7 +106,8 @@ fn read_schedule<S: Source>(alloc: Global, input: &mut S) -> Result<Schedule, Re
 // The report of the world that a schedule makes.
 #[tactic(auto, unfolding(crate::specs::Replay::report_of))]
 fn report(alloc: Global, schedule: &Schedule) -> Result<Octets, NoMemory>
-    requires { IsSchedule schedule.now }
+    requires schedule { IsSchedule schedule.now }
+    requires built { IsBuiltSchedule schedule.now }
     ensures { IfOk result (λ text. text ≡ report_of schedule.now) }
 {
     world(alloc, schedule)?.report()
@@ -110,10 +116,11 @@ fn report(alloc: Global, schedule: &Schedule) -> Result<Octets, NoMemory>
 // The world after all events of a schedule.
 #[tactic(auto, using(crate::proofs::Stepping::can_step_at))]
 fn world(alloc: Global, schedule: &Schedule) -> Result<World, NoMemory>
-    requires { IsSchedule schedule.now }
-    ensures { IfOk result (λ world. world ≡ world_of names schedule.now) }
+    requires schedule { IsSchedule schedule.now }
+    requires built { IsBuiltSchedule schedule.now }
+    ensures { IfOk result (λ world. world ≡ world_of hashed schedule.now) }
 {
-    let mut world = World::new(alloc, schedule);
+    let mut world = World::new(alloc, schedule)?;
     for event in schedule.events.as_slice() {
         world.step(event)?;
     }

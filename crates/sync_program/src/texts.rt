@@ -44,6 +44,11 @@ fn reason_text(reason: LineReason) -> &'static [u8]
 {
     match reason {
         LineReason::End => b": end\n",
+        LineReason::Form => b": form\n",
+        LineReason::Number => b": number\n",
+        LineReason::Range => b": range\n",
+        LineReason::Word => b": word\n",
+        LineReason::Many => b": many\n",
         LineReason::Later => b": later\n",
     }
 }

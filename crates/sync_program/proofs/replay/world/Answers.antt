@@ -9,6 +9,7 @@ loop-event-preserved c = record {
   items = search rules;
   ahead = grind (arith, common_steps, step_ahead);
   counted = search rules;
+  clients = search rules;
 }
 
 -- no event is ahead any more
