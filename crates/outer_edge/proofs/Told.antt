@@ -1,8 +1,11 @@
 -- Pieces one after another, of bytes that are told or not.
-use Rattle.std.proofs.Common.{◌≡◌, ℕ, ◌+◌, ◌≤◌, List, ◌++◌, length, take, drop, refl, length-append, length-drop, ◌-◌, sym, ◌∙◌, ap, append_assoc, arith}
+use Rattle.std.proofs.Common.{◌≡◌, ℕ, ◌+◌, ◌≤◌, List, ◌++◌, length, take, drop, refl, length-append, length-drop, ◌-◌, sym, ◌∙◌, ap, append_assoc, arith, subst}
 use Rattle.std.proofs.Math.Seq.{take-length, take-add}
-use Rattle.std.specs.Prelude.{Option, Some, None}
-use Rattle.outer_edge.specs.Source.{grown, preceded, Grew, Gave, GaveUpTo}
+use Rattle.std.specs.Prelude.{Option, Some, None, Result, Ok, Err, IfErr}
+use Rattle.std.specs.Result.{IsErrAnd}
+use Rattle.outer_edge.specs.Source.{grown, preceded, Grew, Gave, GaveUpTo, GaveCount, IfTooBig, IfNoMemory}
+use Rattle.outer_edge.specs.declared.source.ReadEnd.{ReadEnd}
+use Rattle.outer_edge.specs.declared.source.ReadEnd.TheVariants.{ReadFault, TooBig, NoMemory}
 
 -- a piece and then another are the two in one
 pub grown-grown : (told : Option (List ℕ)) (a b : List ℕ) → grown (grown told a) b ≡ grown told (a ++ b)
@@ -30,6 +33,33 @@ GaveUpTo-after left came before between now a rest most first in_all next = reco
   gave = Gave-then left came before between now a next.piece first next.gave;
   at_most = let h = next.at_most in grind (arith, length-append);
 }
+
+-- a piece, and then just what was still wanted
+pub GaveCount-after : {S : Type 0} (left came : S → Option (List ℕ)) (before between now : S) (a : List ℕ) (rest count : ℕ)
+    → Gave left came before between a → length a + rest ≡ count → GaveCount left came between now rest → GaveCount left came before now count
+GaveCount-after left came before between now a rest count first in_all next = record {
+  piece = a ++ next.piece;
+  gave = Gave-then left came before between now a next.piece first next.gave;
+  just = let h = next.just in grind (arith, length-append);
+}
+
+-- what holds at too many bytes, from what held
+pub IfTooBig-then : (end : ReadEnd) (P Q : ℕ → Type 0) → ((count : ℕ) → P count → Q count) → IfTooBig end P → IfTooBig end Q
+IfTooBig-then ReadFault P Q then held = tt
+IfTooBig-then (TooBig count) P Q then held = then count held
+IfTooBig-then NoMemory P Q then held = tt
+
+-- what holds at want of memory, from what held
+pub IfNoMemory-then : (end : ReadEnd) (P Q : Type 0) → (P → Q) → IfNoMemory end P → IfNoMemory end Q
+IfNoMemory-then ReadFault P Q then held = tt
+IfNoMemory-then (TooBig count) P Q then held = tt
+IfNoMemory-then NoMemory P Q then held = then held
+
+-- what holds of the reading's end that is answered
+pub IfErr-told : {T : Type 0} (answer : Result T ReadEnd) (end : ReadEnd) (Q : ReadEnd → Type 0)
+    → IsErrAnd answer (λ told. told ≡ end) → Q end → IfErr answer Q
+IfErr-told (Ok value) end Q is_told held = absurd is_told
+IfErr-told (Err told) end Q is_told held = subst Q (sym is_told) held
 
 -- the front of a list, and then a front of what is behind it
 take-rest : (i n : ℕ) (xs : List ℕ) → i ≤ length xs → take i xs ++ take n (take (length xs - i) (drop i xs)) ≡ take (i + n) xs

@@ -2,3 +2,4 @@ pub mod Faults
 pub mod Source
 pub mod Sure
 pub mod Memory
+pub mod Calls

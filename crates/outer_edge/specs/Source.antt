@@ -65,3 +65,9 @@ abbrev pub IfTooBig : ReadEnd → (ℕ → Type 0) → Type 0
 IfTooBig ReadFault P = Unit {0}
 IfTooBig (TooBig count) P = P count
 IfTooBig NoMemory P = Unit {0}
+
+-- where the reading ended at want of memory, this holds
+abbrev pub IfNoMemory : ReadEnd → Type 0 → Type 0
+IfNoMemory ReadFault P = Unit {0}
+IfNoMemory (TooBig count) P = Unit {0}
+IfNoMemory NoMemory P = P

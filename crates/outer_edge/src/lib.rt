@@ -4,19 +4,23 @@
 //! fails only where the count rose. So a caller can tell a fault of the outside from one of its own.
 #![tactic(auto)]
 
+mod calls;
 mod faults;
 mod memory;
+mod retried;
 mod sink;
 mod source;
 mod standard;
 mod sure;
 mod words;
 
+pub use calls::{CallCounts, CallFault, InputCalls, OutputCalls, fault_of};
 pub use faults::{Failed, NoMemory};
 pub use memory::{MemorySink, MemorySource};
+pub use retried::Retried;
 pub use sink::{Sink, WriteFault, write_whole};
 pub use source::{ReadEnd, Source, read_up_to};
-pub use standard::{StandardInput, StandardOutput};
+pub use standard::{PrinterCalls, ReaderCalls, StandardInput, StandardOutput};
 pub use sure::{SureSink, SureSource};
 pub use words::Words;
 

@@ -1,6 +1,6 @@
-ghost use Rattle.std.specs.Prelude.{◌≡◌, ◌+◌, ◌^◌, ◌<◌, ◌≤◌, ℕ, List, length, take, drop, IfOk, IfErr, OnOk, OnErr, Option, IfSome};
+ghost use Rattle.std.specs.Prelude.{◌≡◌, ◌+◌, ◌-◌, ◌^◌, ◌<◌, ◌≤◌, ℕ, List, length, take, drop, IfOk, IfErr, OnOk, OnErr, Option, IfSome};
 ghost use Rattle.outer_edge.specs.Faults.{Rose, NeverFalls};
-ghost use Rattle.outer_edge.specs.Source.{Gave, GaveUpTo, GaveCount, GaveOnto, IsAtEnd, IsAllOf, HasCause, IfTooBig};
+ghost use Rattle.outer_edge.specs.Source.{Gave, GaveUpTo, GaveCount, GaveOnto, IsAtEnd, IsAllOf, HasCause, IfTooBig, IfNoMemory};
 ghost use Rattle.outer_edge.specs.declared.source.ReadEnd.TheVariants.{NoMemory as OutOfMemory};
 
 use crate::Failed;
@@ -85,38 +85,48 @@ pub fn read_up_to<S: Source>(alloc: Global, source: &mut S, limit: u64) -> Resul
     ensures was_longer { IfErr result (λ end. IfTooBig end (λ _.
         IfSome (S.left source.old) (λ all. limit < length all))) }
 
+    // At `NoMemory` no more than the limit came: bytes that are known to be too many are told as such.
+    ensures memory { IfErr result (λ end. IfNoMemory end (GaveUpTo S.left S.came source.old source.new limit)) }
+
     // In every case.
     ensures cause { IfErr result (λ end. HasCause end (S.faults source.old) (S.faults source.new)) }
     ensures gave_some { GaveUpTo S.left S.came source.old source.new (limit + 1) }
     ensures never_falls { NeverFalls (S.faults source.old) (S.faults source.new) }
 {
     let mut bytes = Vec::new(alloc);
-    while bytes.len() as u64 <= limit {
-        let wanted = limit + 1 - bytes.len() as u64;
-        if read_piece(source, &mut bytes, wanted)? == 0 {
-            return Ok(bytes);
-        }
-    }
-    Err(ReadEnd::TooBig { count: limit + 1 })
+    while read_piece(source, &mut bytes, limit)? > 0 {}
+    Ok(bytes)
 }
 
-// Reads once, and puts what came at the end of the bytes. 0 says that the source is at its end.
-fn read_piece<S: Source>(source: &mut S, bytes: &mut Vec<u8>, wanted: u64) -> Result<usize, ReadEnd>
-    requires { 0 < wanted }
+// Reads once, and puts what came at the end of the bytes, if they are not too many with it. 0 says that the source is at
+// its end.
+fn read_piece<S: Source>(source: &mut S, bytes: &mut Vec<u8>, limit: u64) -> Result<usize, ReadEnd>
+    requires within { length bytes.old.items ≤ limit }
+    requires fits { limit < 2 ^ 63 }
+
     ensures gave { IfOk result (GaveOnto S.left S.came source.old source.new bytes.old.items bytes.new.items) }
+    ensures still_within { OnOk result (length bytes.new.items ≤ limit) }
     ensures ended { IfOk result (λ count. count ≡ 0 → IsAtEnd (S.left source.old)) }
     ensures no_fault { OnOk result (S.faults source.new ≡ S.faults source.old) }
-    ensures fits { IfOk result (λ count. count ≤ wanted) }
-    ensures no_too_big { IfErr result (λ end. IfTooBig end (λ _. ⊥)) }
+
+    ensures too_big { IfErr result (λ end. IfTooBig end (λ count. count ≡ limit + 1)) }
+    ensures gave_more { IfErr result (λ end. IfTooBig end (λ _.
+        GaveCount S.left S.came source.old source.new (limit + 1 - length bytes.old.items))) }
+    ensures memory { IfErr result (λ end. IfNoMemory end
+        (GaveUpTo S.left S.came source.old source.new (limit - length bytes.old.items))) }
     ensures cause { IfErr result (λ end. HasCause end (S.faults source.old) (S.faults source.new)) }
-    ensures gave_some { GaveUpTo S.left S.came source.old source.new wanted }
+    ensures gave_some { GaveUpTo S.left S.came source.old source.new (limit + 1 - length bytes.old.items) }
     ensures never_falls { NeverFalls (S.faults source.old) (S.faults source.new) }
 {
+    let wanted = limit + 1 - bytes.len() as u64;
     let mut buffer = [0; ROOM];
     let room = &mut buffer[..wanted.min(ROOM as u64) as usize];
     let Ok(count) = source.read(room) else {
         return Err(ReadEnd::ReadFault);
     };
+    if count as u64 == wanted {
+        return Err(ReadEnd::TooBig { count: limit + 1 });
+    }
     bytes.extend_from_slice(&room[..count])?;
     Ok(count)
 }

@@ -1,128 +1,118 @@
-ghost use Rattle.std.specs.Prelude.{◌≡◌, ◌<◌, ◌≤◌, length, None, IfOk};
+//! Standard input and output: the raw calls of the system.
+ghost use Rattle.std.specs.Prelude.{◌≡◌, ◌≤◌, length, drop, None, IfOk, IfErr, OnOk, OnErr, MatchResult};
+ghost use Rattle.std.specs.Result.{IsErrAnd};
+ghost use Rattle.std.specs.IoError.{error_kind};
+ghost use Rattle.std.specs.Io.KnownBytes.{ReadConsumes};
+ghost use Rattle.outer_edge.specs.Calls.{IsFaultOf, IsTakenOf, with_fault};
 
 use crate::source::ROOM;
-use crate::{Failed, Sink, Source};
-use std::io::{ErrorKind, Read};
-use std::marker::Model;
+use crate::{CallCounts, CallFault, InputCalls, OutputCalls, Retried, fault_of};
+use std::io::{self, Read};
 
 /// A reader of the system's, as `rt.reader()` or `rt.stdin()`, as a source. It tells no bytes.
-///
-/// An interrupted call is made again. Contracts see it as its count of faults.
-#[derive(Drop)]
-pub struct StandardInput<R> {
-    reader: R,
-    faults: u64,
-}
+pub type StandardInput<R> = Retried<ReaderCalls<R>>;
 
-impl<R> Model for StandardInput<R> {
-    ghost use Rattle.std.specs.Prelude.{ℕ};
-
-    ghost Value = { ℕ };
-
-    ghost view = { λ s. s.faults };
-}
-
-impl<R> StandardInput<R> {
+impl<R> Retried<ReaderCalls<R>> {
     pub fn new(reader: R) -> Self
-        ensures { result ≡ 0 }
+        ensures { result.faults ≡ 0 }
     {
-        StandardInput { reader, faults: 0 }
+        Retried::over(ReaderCalls {
+            reader,
+            counts: CallCounts::new(),
+        })
     }
 }
 
-impl<R: Read> Source for StandardInput<R> {
+/// The calls of a reader of the system's. That the bytes are those that the system gives is trusted.
+#[derive(Drop)]
+pub struct ReaderCalls<R> {
+    reader: R,
+    counts: CallCounts,
+}
+
+impl<R: Read> InputCalls for ReaderCalls<R> {
     ghost left = { λ _. None };
 
     ghost came = { λ _. None };
 
-    ghost faults = { λ s. s };
+    ghost counts = { λ s. s.counts };
 
-    fn read(&mut self, room: &mut [u8]) -> Result<usize, Failed> {
+    /// Gives at most 4,096 bytes.
+    fn read_once(&mut self, room: &mut [u8]) -> Result<usize, CallFault>
+        ensures fits { IfOk result (λ count. count ≤ length room.old) }
+        ensures rest_of_room { IfOk result (λ count. drop count room.new ≡ drop count room.old) }
+        ensures no_fault { OnOk result (self.new.counts ≡ self.old.counts) }
+        ensures fault { IfErr result (λ fault. self.new.counts ≡ with_fault fault self.old.counts) }
+        ensures room_kept { OnErr result (room.new ≡ room.old) }
+        // What the reader gives, where it tells that.
+        ensures reads { ReadConsumes (R.remaining self.old.reader) (R.remaining self.new.reader) result room.new }
+    {
         // A reader may write past what it says that it gave, so it does not get the room itself.
         let mut buffer = [0; ROOM];
         let wanted = room.len().min(ROOM);
-        let Ok(count) = read_once(&mut self.reader, &mut buffer[..wanted]) else {
-            self.faults = self.faults.saturating_add(1);
-            return Err(Failed);
-        };
-        room[..count].copy_from_slice(&buffer[..count]);
-        Ok(count)
-    }
-}
-
-// One call that is not interrupted.
-fn read_once<R: Read>(reader: &mut R, room: &mut [u8]) -> Result<usize, Failed>
-    ensures { IfOk result (λ count. count ≤ length room.old) }
-{
-    for _ in 0..u64::MAX {
-        match reader.read(room) {
-            Ok(count) => return Ok(count),
+        match self.reader.read(&mut buffer[..wanted]) {
+            Ok(count) => {
+                room[..count].copy_from_slice(&buffer[..count]);
+                Ok(count)
+            }
             Err(error) => {
-                if error.kind() != ErrorKind::Interrupted {
-                    return Err(Failed);
-                }
+                let fault = fault_of(&error);
+                self.counts.add(fault);
+                Err(fault)
             }
         }
     }
-    Err(Failed)
 }
 
 /// Standard output, or what else prints, as a sink. It tells no bytes, and keeps none back: each call is one of the
 /// system's.
-///
-/// An interrupted call is made again, and one that takes no byte of a piece that has some is a fault. Contracts see it
-/// as its count of faults.
-#[derive(Drop)]
-pub struct StandardOutput<'a, P> {
-    printer: &'a P,
-    faults: u64,
-}
+pub type StandardOutput<'a, P> = Retried<PrinterCalls<'a, P>>;
 
-impl<'a, P> Model for StandardOutput<'a, P> {
-    ghost use Rattle.std.specs.Prelude.{ℕ};
-
-    ghost Value = { ℕ };
-
-    ghost view = { λ s. s.faults };
-}
-
-impl<'a, P> StandardOutput<'a, P> {
+impl<'a, P> Retried<PrinterCalls<'a, P>> {
     pub fn new(printer: &'a P) -> Self
-        ensures { result ≡ 0 }
+        ensures { result.faults ≡ 0 }
     {
-        StandardOutput { printer, faults: 0 }
+        Retried::over(PrinterCalls {
+            printer,
+            counts: CallCounts::new(),
+        })
     }
 }
 
-impl<P: Print> Sink for StandardOutput<'_, P> {
+/// The calls of what prints. That the bytes are handed to the system is trusted.
+///
+/// One that takes no byte of a piece that has some has failed.
+#[derive(Drop)]
+pub struct PrinterCalls<'a, P> {
+    printer: &'a P,
+    counts: CallCounts,
+}
+
+impl<P: Print> OutputCalls for PrinterCalls<'_, P> {
     ghost taken = { λ _. None };
 
-    ghost faults = { λ s. s };
+    ghost counts = { λ s. s.counts };
 
-    fn write(&mut self, piece: &[u8]) -> Result<usize, Failed> {
-        match write_once(self.printer, piece) {
-            Ok(count) if count > 0 || piece.is_empty() => Ok(count),
-            _ => {
-                self.faults = self.faults.saturating_add(1);
-                Err(Failed)
+    fn write_once(&mut self, piece: &[u8]) -> Result<usize, CallFault> {
+        match taken_of(self.printer.write_some(piece), piece) {
+            Ok(count) => Ok(count),
+            Err(fault) => {
+                self.counts.add(fault);
+                Err(fault)
             }
         }
     }
 }
 
-// One call that is not interrupted.
-fn write_once<P: Print>(printer: &P, piece: &[u8]) -> Result<usize, Failed>
-    ensures { IfOk result (λ count. count ≤ length piece.now) }
+// What a call is that the system answered so.
+fn taken_of(answer: io::Result<usize>, piece: &[u8]) -> Result<usize, CallFault>
+    ensures { MatchResult answer
+        (λ count. IsTakenOf count piece.now result)
+        (λ error. IsErrAnd result (λ fault. IsFaultOf (error_kind error) fault)) }
 {
-    for _ in 0..u64::MAX {
-        match printer.write_some(piece) {
-            Ok(count) => return Ok(count),
-            Err(error) => {
-                if error.kind() != ErrorKind::Interrupted {
-                    return Err(Failed);
-                }
-            }
-        }
+    match answer {
+        Ok(count) if count > 0 || piece.is_empty() => Ok(count),
+        Ok(_) => Err(CallFault::Failure),
+        Err(error) => Err(fault_of(&error)),
     }
-    Err(Failed)
 }

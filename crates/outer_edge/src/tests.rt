@@ -1,9 +1,8 @@
 // Each public call once with ample memory, and a fault in mid-stream.
 use super::*;
-use std::fmt::Display;
-use std::io;
-use std::io::{Error, ErrorKind, Read};
 use std::test::Fail;
+
+mod system_calls;
 
 // A source of these many bytes, which count up.
 fn source_of(rt: &HostRuntime, count: u8, failing: &[u64]) -> Result<MemorySource, Fail> {
@@ -91,77 +90,4 @@ fn words_stay_in_order(rt: HostRuntime) -> Result<(), Fail> {
     assert!(rt; words.get(1) == Some("a.txt"));
     assert!(rt; words.get(2).is_none());
     Ok(())
-}
-
-// A reader that is interrupted, then gives two bytes, and then fails.
-#[derive(Drop)]
-struct Script {
-    calls: u8,
-}
-
-impl Read for Script {
-    fn read(&mut self, buf: &mut [u8]) -> io::Result<usize> {
-        self.calls = self.calls.saturating_add(1);
-        match self.calls {
-            1 => Err(Error::from(ErrorKind::Interrupted)),
-            2 if buf.len() >= 2 => {
-                buf[0] = 7;
-                buf[1] = 8;
-                Ok(2)
-            }
-            _ => Err(Error::from(ErrorKind::BrokenPipe)),
-        }
-    }
-}
-
-#[test]
-fn standard_input_goes_on_after_an_interruption(rt: HostRuntime) {
-    let mut input = StandardInput::new(Script { calls: 0 });
-    let mut room = [0; 3];
-    assert_eq!(rt; input.read(&mut room), Ok(2));
-    assert_eq!(rt; room, [7, 8, 0]);
-    let end = read_up_to(rt.alloc(), &mut input, 9).err();
-    assert_eq!(rt; end, Some(ReadEnd::ReadFault));
-}
-
-#[test]
-fn standard_input_is_read_to_its_end(rt: HostRuntime) -> Result<(), Fail> {
-    let mut input = StandardInput::new(b"abc".as_slice());
-    let bytes = read_up_to(rt.alloc(), &mut input, 9)?;
-    assert_eq!(rt; bytes.as_slice(), b"abc".as_slice());
-    Ok(())
-}
-
-// A printer that takes nothing.
-#[derive(Drop)]
-struct Stuck;
-
-impl Print for Stuck {
-    fn print<D: Display + Drop>(&self, _: D) -> io::Result<()> {
-        Ok(())
-    }
-
-    fn println<D: Display + Drop>(&self, _: D) -> io::Result<()> {
-        Ok(())
-    }
-
-    fn write_all(&self, _: &[u8]) -> io::Result<()> {
-        Ok(())
-    }
-
-    fn write_some(&self, _: &[u8]) -> io::Result<usize> {
-        Ok(0)
-    }
-}
-
-#[test]
-fn standard_output_that_takes_nothing_fails(rt: HostRuntime) {
-    let mut output = StandardOutput::new(&Stuck);
-    assert_eq!(rt; write_whole(&mut output, b""), Ok(()));
-    assert_eq!(rt;
-        write_whole(&mut output, b"a"),
-        Err(WriteFault { written: 0 })
-    );
-    let mut output = StandardOutput::new(&rt);
-    assert_eq!(rt; write_whole(&mut output, b"\n"), Ok(()));
 }

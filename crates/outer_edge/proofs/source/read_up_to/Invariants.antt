@@ -6,7 +6,7 @@ use Rattle.outer_edge.proofs.source.read_up_to.Given as goal
 abbrev pub invariant-loop-bytes : goal.invariant-loop-bytes
 invariant-loop-bytes g l = record {
   gave : Gave g.S.Source.left g.S.Source.came l.fn.source l.source l.bytes.items;
-  within : length l.bytes.items ≤ l.limit + 1;
+  within : length l.bytes.items ≤ l.limit;
   no_fault : g.S.Source.faults l.source ≡ g.S.Source.faults l.fn.source;
 }
 
