@@ -3,4 +3,9 @@ pub mod PartLemmas
 pub mod PieceLemmas
 pub mod MessageLemmas
 pub mod OneMessage
+pub mod LeastFields
 pub mod WrittenMessages
+pub mod ExtraFields
+pub mod UnknownLookups
+pub mod WrittenExtras
+pub mod FirstFaults

@@ -3,7 +3,7 @@ use Rattle.std.proofs.Common.{ℕ, Bool, true, false, ◌==◌, if◌then◌else
 use Rattle.std.specs.List.{filter, cons_option, last_or, AllByRecursion}
 use Rattle.message_fields.specs.declared.field.Part.{Part}
 use Rattle.message_fields.specs.declared.field.Held.{Held}
-use Rattle.message_fields.specs.declared.field.Held.TheVariants.{Varint, Bytes, Group, Fixed}
+use Rattle.message_fields.specs.declared.field.Held.TheVariants.{Varint, Eight, Bytes, Group, Four}
 use Rattle.message_fields.specs.declared.field.PlacedField.{PlacedField}
 use Rattle.message_fields.specs.Fields.{IsPartOf, ArePartsOf}
 use Rattle.message_fields.specs.Lookups.{has_number, last_of, content_of, bytes_held, group_held, held_by, parts_by, parts_of, groups_of, IsWithin, AreWithin}
@@ -23,7 +23,8 @@ held_within : (input : List ℕ) (held : Held) → IsWithin input held → IfSom
 held_within input (Varint value) within = tt
 held_within input (Bytes part) within = within
 held_within input (Group part) within = tt
-held_within input Fixed within = tt
+held_within input (Eight part) within = tt
+held_within input (Four part) within = tt
 
 counts_within : (input : List ℕ) (found : Option PlacedField) → IfSome found (λ (field : PlacedField). IsWithin input field.held) →
     IfSome (held_by bytes_held found) (IsPartOf input)
@@ -41,7 +42,8 @@ group_within : (input : List ℕ) (held : Held) → IsWithin input held → IfSo
 group_within input (Varint value) within = tt
 group_within input (Bytes part) within = tt
 group_within input (Group part) within = within
-group_within input Fixed within = tt
+group_within input (Eight part) within = tt
+group_within input (Four part) within = tt
 
 cons_within : (input : List ℕ) (part : Option Part) (parts : List Part) → IfSome part (IsPartOf input) → ArePartsOf input parts →
     ArePartsOf input (cons_option part parts)

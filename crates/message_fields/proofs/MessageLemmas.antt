@@ -13,71 +13,71 @@ use Rattle.wire_format.specs.declared.field.Payload.TheVariants.{Varint, Eight, 
 use Rattle.message_fields.specs.declared.field.Held.{Held}
 use Rattle.message_fields.specs.Fields.{Holds, AreFieldsIn}
 use Rattle.message_fields.specs.Lookups.{IsWithin, AreWithin}
-use Rattle.message_fields.specs.Readings.{AreFieldsOf, IsReading, IsRead, is_known, end_of}
+use Rattle.message_fields.specs.Readings.{AreFieldsOf, IsReading, IsReadingOf, IsWholeReading, IsRead, is_known, end_of}
 
 -- the pieces up to one of them were read, and each was whole
-pub record ReadUpTo (known : List Known) (input : List ℕ) (parts : List Part) (index : ℕ) (found : List PlacedField) : Type 0 where
+pub record ReadUpTo (kept : PlacedField → Bool) (input : List ℕ) (parts : List Part) (index : ℕ) (found : List PlacedField) : Type 0 where
   pub fields : List PlacedField
   pub goes_on : (rest : List PlacedField) → (fault : Option WireFault) → AreFieldsOf input (drop index parts) rest fault →
       AreFieldsOf input parts (fields ++ rest) fault
-  pub are_known : found ≡ filter (is_known known) fields
+  pub are_known : found ≡ filter kept fields
 
 -- no piece was read
-pub none_read : (known : List Known) (input : List ℕ) (parts : List Part) → ReadUpTo known input parts 0 []
-none_read known input parts = record { fields = []; goes_on = λ rest fault are. are; are_known = refl }
+pub none_read : (kept : PlacedField → Bool) (input : List ℕ) (parts : List Part) → ReadUpTo kept input parts 0 []
+none_read kept input parts = record { fields = []; goes_on = λ rest fault are. are; are_known = refl }
 
 -- a piece was read whole
-one_whole : (known : List Known) (input : List ℕ) (parts : List Part) (index : ℕ) (part : Part) (old new : List PlacedField) →
-    drop index parts ≡ part ∷ drop (index + 1) parts → ReadUpTo known input parts index old → IsRead known input part old new None →
-    ReadUpTo known input parts (index + 1) new
-one_whole known input parts index part old new more so_far read = record {
+one_whole : (kept : PlacedField → Bool) (input : List ℕ) (parts : List Part) (index : ℕ) (part : Part) (old new : List PlacedField) →
+    drop index parts ≡ part ∷ drop (index + 1) parts → ReadUpTo kept input parts index old → IsRead kept input part old new None →
+    ReadUpTo kept input parts (index + 1) new
+one_whole kept input parts index part old new more so_far read = record {
   fields = so_far.fields ++ read.fields;
   goes_on = λ rest fault are.
       subst (λ fields. AreFieldsOf input parts fields fault) (sym (append_assoc so_far.fields read.fields rest))
       (so_far.goes_on (read.fields ++ rest) fault
       (subst (λ pieces. AreFieldsOf input pieces (read.fields ++ rest) fault) (sym more)
       (inl (record { first = read.fields; rest = rest; are_both = refl; is_whole = read.is_piece; follow = are }))));
-  are_known = read.is_added ∙ ap (λ front. front ++ filter (is_known known) read.fields) so_far.are_known
-      ∙ sym (filter-append (is_known known) so_far.fields read.fields);
+  are_known = read.is_added ∙ ap (λ front. front ++ filter kept read.fields) so_far.are_known
+      ∙ sym (filter-append kept so_far.fields read.fields);
 }
 
 -- a piece is at fault
-one_faulty : (known : List Known) (input : List ℕ) (parts : List Part) (index : ℕ) (part : Part) (old new : List PlacedField)
-    (fault : WireFault) → drop index parts ≡ part ∷ drop (index + 1) parts → ReadUpTo known input parts index old →
-    IsRead known input part old new (Some fault) →
-    IsReading known input parts (record { fields = new; wire_fault = Some fault; end = end_of 0 parts })
-one_faulty known input parts index part old new fault more so_far read = record {
+one_faulty : (kept : PlacedField → Bool) (input : List ℕ) (parts : List Part) (index : ℕ) (part : Part) (old new : List PlacedField)
+    (fault : WireFault) → drop index parts ≡ part ∷ drop (index + 1) parts → ReadUpTo kept input parts index old →
+    IsRead kept input part old new (Some fault) →
+    IsReadingOf kept input parts (record { fields = new; wire_fault = Some fault; end = end_of 0 parts })
+one_faulty kept input parts index part old new fault more so_far read = record {
   fields = so_far.fields ++ read.fields;
   are_fields = so_far.goes_on read.fields (Some fault)
       (subst (λ pieces. AreFieldsOf input pieces read.fields (Some fault)) (sym more)
       (inr (record { found = fault; is_fault = refl; is_faulty = read.is_piece })));
-  are_known = read.is_added ∙ ap (λ front. front ++ filter (is_known known) read.fields) so_far.are_known
-      ∙ sym (filter-append (is_known known) so_far.fields read.fields);
+  are_known = read.is_added ∙ ap (λ front. front ++ filter kept read.fields) so_far.are_known
+      ∙ sym (filter-append kept so_far.fields read.fields);
   is_end = refl;
 }
 
 -- a piece is whole, as the test of its fault says
-pub goes_on : (known : List Known) (input : List ℕ) (parts : List Part) (index : ℕ) (part : Part) (old new : List PlacedField)
-    (fault : Option WireFault) → drop index parts ≡ part ∷ drop (index + 1) parts → ReadUpTo known input parts index old →
-    IsRead known input part old new fault → is_some fault ≡ false → ReadUpTo known input parts (index + 1) new
-goes_on known input parts index part old new None more so_far read none =
-    one_whole known input parts index part old new more so_far read
-goes_on known input parts index part old new (Some fault) more so_far read none = absurd (true≢false none)
+pub goes_on : (kept : PlacedField → Bool) (input : List ℕ) (parts : List Part) (index : ℕ) (part : Part) (old new : List PlacedField)
+    (fault : Option WireFault) → drop index parts ≡ part ∷ drop (index + 1) parts → ReadUpTo kept input parts index old →
+    IsRead kept input part old new fault → is_some fault ≡ false → ReadUpTo kept input parts (index + 1) new
+goes_on kept input parts index part old new None more so_far read none =
+    one_whole kept input parts index part old new more so_far read
+goes_on kept input parts index part old new (Some fault) more so_far read none = absurd (true≢false none)
 
 -- a piece is at fault, as the test of its fault says
-pub stops : (known : List Known) (input : List ℕ) (parts : List Part) (index : ℕ) (part : Part) (old new : List PlacedField)
-    (fault : Option WireFault) → drop index parts ≡ part ∷ drop (index + 1) parts → ReadUpTo known input parts index old →
-    IsRead known input part old new fault → is_some fault ≡ true →
-    IsReading known input parts (record { fields = new; wire_fault = fault; end = end_of 0 parts })
-stops known input parts index part old new None more so_far read some = absurd (true≢false (sym some))
-stops known input parts index part old new (Some fault) more so_far read some =
-    one_faulty known input parts index part old new fault more so_far read
+pub stops : (kept : PlacedField → Bool) (input : List ℕ) (parts : List Part) (index : ℕ) (part : Part) (old new : List PlacedField)
+    (fault : Option WireFault) → drop index parts ≡ part ∷ drop (index + 1) parts → ReadUpTo kept input parts index old →
+    IsRead kept input part old new fault → is_some fault ≡ true →
+    IsReadingOf kept input parts (record { fields = new; wire_fault = fault; end = end_of 0 parts })
+stops kept input parts index part old new None more so_far read some = absurd (true≢false (sym some))
+stops kept input parts index part old new (Some fault) more so_far read some =
+    one_faulty kept input parts index part old new fault more so_far read
 
 -- all pieces were read
-pub all_read : (known : List Known) (input : List ℕ) (parts : List Part) (index : ℕ) (found : List PlacedField) →
-    length parts ≤ index → ReadUpTo known input parts index found →
-    IsReading known input parts (record { fields = found; wire_fault = None; end = end_of 0 parts })
-all_read known input parts index found ended so_far = record {
+pub all_read : (kept : PlacedField → Bool) (input : List ℕ) (parts : List Part) (index : ℕ) (found : List PlacedField) →
+    length parts ≤ index → ReadUpTo kept input parts index found →
+    IsReadingOf kept input parts (record { fields = found; wire_fault = None; end = end_of 0 parts })
+all_read kept input parts index found ended so_far = record {
   fields = so_far.fields;
   are_fields = subst (λ fields. AreFieldsOf input parts fields None) (append-nil so_far.fields)
       (so_far.goes_on [] None (subst (λ pieces. AreFieldsOf input pieces [] None) (sym (at_drop_all (λ pieces. pieces) parts index ended)) (refl, refl)));
@@ -89,10 +89,10 @@ all_read known input parts index found ended so_far = record {
 holds_within : (input : List ℕ) (at end number : ℕ) (payload : Payload) (held : Held) → Holds input at end number payload held →
     IsWithin input held
 holds_within input at end number (Varint value) held holds = subst (IsWithin input) (sym holds) tt
-holds_within input at end number (Eight value) held holds = subst (IsWithin input) (sym holds) tt
+holds_within input at end number (Eight value) held holds = subst (IsWithin input) (sym holds.is_held) holds.is_part
 holds_within input at end number (Bytes content) held holds = subst (IsWithin input) (sym holds.is_held) holds.is_part
 holds_within input at end number (Group content) held holds = subst (IsWithin input) (sym holds.is_held) holds.is_part
-holds_within input at end number (Four value) held holds = subst (IsWithin input) (sym holds) tt
+holds_within input at end number (Four value) held holds = subst (IsWithin input) (sym holds.is_held) holds.is_part
 
 fields_within : (input : List ℕ) (begin : ℕ) (fields : List PlacedField) (end : ℕ) → AreFieldsIn input begin fields end → AreWithin input fields
 fields_within input begin [] end are = tt
@@ -124,9 +124,32 @@ known_within input p (field ∷ fields) within =
       | false ↦ known_within input p fields within.1
     ]
 
+-- the contents of the fields that were kept stand within the input
+pub kept_within : (kept : PlacedField → Bool) (input : List ℕ) (parts : List Part) (message : Message) →
+    IsReadingOf kept input parts message → AreWithin input message.fields
+kept_within kept input parts message reading =
+    subst (AreWithin input) (sym reading.are_known)
+    (known_within input kept reading.fields (all_within input parts reading.fields message.wire_fault reading.are_fields))
+
 -- the contents of a message that was read stand within the input
 pub reading_within : (known : List Known) (input : List ℕ) (parts : List Part) (message : Message) →
     IsReading known input parts message → AreWithin input message.fields
-reading_within known input parts message reading =
-    subst (AreWithin input) (sym reading.are_known)
-    (known_within input (is_known known) reading.fields (all_within input parts reading.fields message.wire_fault reading.are_fields))
+reading_within known input parts message reading = kept_within (is_known known) input parts message reading
+
+-- the contents of a whole message stand within the input
+pub whole_within : (input : List ℕ) (parts : List Part) (message : Message) → IsWholeReading input parts message →
+    AreWithin input message.fields
+whole_within input parts message reading = all_within input parts message.fields message.wire_fault reading.are_fields
+
+all_kept : (fields : List PlacedField) → filter (λ field. true) fields ≡ fields
+all_kept [] = refl
+all_kept (field ∷ fields) = ap (λ rest. field ∷ rest) (all_kept fields)
+
+-- a reading of which every field is kept is a whole one
+pub whole_read : (input : List ℕ) (parts : List Part) (message : Message) → IsReadingOf (λ field. true) input parts message →
+    IsWholeReading input parts message
+whole_read input parts message reading = record {
+  are_fields = subst (λ fields. AreFieldsOf input parts fields message.wire_fault)
+      (sym (reading.are_known ∙ all_kept reading.fields)) reading.are_fields;
+  is_end = reading.is_end;
+}

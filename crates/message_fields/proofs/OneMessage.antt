@@ -17,12 +17,12 @@ use Rattle.wire_format.proofs.OneField.{one_field}
 use Rattle.wire_format.proofs.FieldLemmas.{field_some}
 use Rattle.message_fields.specs.declared.field.Part.{Part}
 use Rattle.message_fields.specs.declared.field.Held.{Held}
-use Rattle.message_fields.specs.declared.field.Held.TheVariants.{Varint as HeldVarint, Bytes as HeldBytes, Group as HeldGroup}
+use Rattle.message_fields.specs.declared.field.Held.TheVariants.{Varint as HeldVarint, Eight as HeldEight, Bytes as HeldBytes, Group as HeldGroup, Four as HeldFour}
 use Rattle.message_fields.specs.declared.field.PlacedField.{PlacedField}
 use Rattle.message_fields.specs.declared.message.Message.{Message}
-use Rattle.message_fields.specs.Fields.{IsPartOf, ArePartsOf, IsContent, IsGroupContent, Holds, IsFieldIn, AreFieldsIn, IsFaultyPart}
+use Rattle.message_fields.specs.Fields.{IsPartOf, ArePartsOf, IsFixed, IsContent, IsGroupContent, Holds, IsFieldIn, AreFieldsIn, IsFaultyPart}
 use Rattle.message_fields.specs.Readings.{is_known, AreFieldsOf}
-use Rattle.message_fields.specs.Laws.{PiecesAreOneMessage}
+use Rattle.message_fields.specs.Laws.{PiecesAreOneMessage, PiecesAreOneWholeMessage}
 use Rattle.message_fields.proofs.PartLemmas.{length_part}
 
 part_same : (p q : Part) → p.begin ≡ q.begin → p.end ≡ q.end → p ≡ q
@@ -37,6 +37,12 @@ contents_same input end content second held other one two same =
     let begins : one.part.begin ≡ two.part.begin
     = omega (arith, long, also, ap length one.is_content, ap length two.is_content, ap length same, one.ends, two.ends, one.is_part.0, two.is_part.0) in
     one.is_held ∙ ap HeldBytes (part_same one.part two.part begins (one.ends ∙ sym two.ends)) ∙ sym two.is_held
+
+fixed_same : (input : List ℕ) (end size : ℕ) (form : Part → Held) (held other : Held) → IsFixed input end size form held →
+    IsFixed input end size form other → held ≡ other
+fixed_same input end size form held other one two =
+    let begins : one.part.begin ≡ two.part.begin = omega (arith, one.is_long, two.is_long, one.ends, two.ends) in
+    one.is_held ∙ ap form (part_same one.part two.part begins (one.ends ∙ sym two.ends)) ∙ sym two.is_held
 
 header_some : (bytes : List ℕ) (number kind : ℕ) → IsHeader bytes number kind → 0 < length bytes
 header_some bytes number kind header =
@@ -83,12 +89,12 @@ groups_same input at end number content second held other one two same =
 held_same : (input : List ℕ) (at end number : ℕ) (payload second : Payload) (held other : Held) → HoldSame payload second →
     Holds input at end number payload held → Holds input at end number second other → held ≡ other
 held_same input at end number (Varint value) (Varint second) held other same one two = one ∙ ap HeldVarint same ∙ sym two
-held_same input at end number (Eight value) (Eight second) held other same one two = one ∙ sym two
+held_same input at end number (Eight value) (Eight second) held other same one two = fixed_same input end 8 HeldEight held other one two
 held_same input at end number (Bytes content) (Bytes second) held other same one two =
     contents_same input end content.now second.now held other one two same
 held_same input at end number (Group content) (Group second) held other same one two =
     groups_same input at end number content.now second.now held other one two same
-held_same input at end number (Four value) (Four second) held other same one two = one ∙ sym two
+held_same input at end number (Four value) (Four second) held other same one two = fixed_same input end 4 HeldFour held other one two
 held_same input at end number _ _ held other same one two = absurd same
 
 placed_same : (x y : PlacedField) → x.number ≡ y.number → x.at ≡ y.at → x.held ≡ y.held → x ≡ y
@@ -98,7 +104,7 @@ placed_same x y numbers places held =
     ∙ ap (λ held. record { number = y.number; at = y.at; held = held }) held
 
 -- two fields at one place
-fields_same : (input : List ℕ) (x y : PlacedField) (e f : ℕ) → x.at ≡ y.at → x.at ≤ e → x.at ≤ f → e ≤ length input → f ≤ length input →
+pub fields_same : (input : List ℕ) (x y : PlacedField) (e f : ℕ) → x.at ≡ y.at → x.at ≤ e → x.at ≤ f → e ≤ length input → f ≤ length input →
     IsFieldIn input x e → IsFieldIn input y f → (e ≡ f) × (x ≡ y)
 fields_same input x y e f places before also within fits one two =
     let second : IsField (slice_range input x.at f) y.number two.payload
@@ -113,12 +119,12 @@ fields_same input x y e f places before also within fits one two =
     (ends, placed_same x y same.1 places (held_same input x.at e x.number one.payload two.payload x.held y.held same.2 one.holds holds))
 
 -- fields go on
-ends_after : (input : List ℕ) (begin : ℕ) (fields : List PlacedField) (end : ℕ) → AreFieldsIn input begin fields end → begin ≤ end
+pub ends_after : (input : List ℕ) (begin : ℕ) (fields : List PlacedField) (end : ℕ) → AreFieldsIn input begin fields end → begin ≤ end
 ends_after input begin [] end are = omega (arith, are)
 ends_after input begin (field ∷ fields) end are = omega (arith, are.is_after, ends_after input are.end fields end are.follow)
 
 -- a field stands at the front of what is left
-stands_at_front : (input : List ℕ) (place end last : ℕ) (field : PlacedField) → field.at ≡ place → place ≤ last → last ≤ end →
+pub stands_at_front : (input : List ℕ) (place end last : ℕ) (field : PlacedField) → field.at ≡ place → place ≤ last → last ≤ end →
     end ≤ length input → IsFieldIn input field last → HasNoField (slice_range input place end) → ⊥
 stands_at_front input place end last field at before within fits is none =
     let is_field : IsField (slice_range input place last) field.number is.payload
@@ -158,7 +164,7 @@ no_field_of_nothing : (bytes : List ℕ) → bytes ≡ [] → HasNoField bytes
 no_field_of_nothing bytes none size number payload field =
     omega (arith, ap length none, field.0, field_some (take size bytes) number payload field.1, length-take-le size bytes field.0)
 
-no_fault_of_nothing : (bytes : List ℕ) (reason : WireReason) (place : ℕ) → bytes ≡ [] → IsFault bytes reason place → ⊥
+pub no_fault_of_nothing : (bytes : List ℕ) (reason : WireReason) (place : ℕ) → bytes ≡ [] → IsFault bytes reason place → ⊥
 no_fault_of_nothing bytes reason place none fault =
     fields_have_no_fault [] reason place (no_fields (MayFill 32)) (subst (λ found. IsFault found reason place) none fault)
 
@@ -220,3 +226,8 @@ pub one_message : PiecesAreOneMessage
 one_message known input parts message other are one two =
     let same = all_same input parts one.fields two.fields message.wire_fault other.wire_fault are one.are_fields two.are_fields in
     message_same message other (one.are_known ∙ ap (filter (is_known known)) same.0 ∙ sym two.are_known) same.1 (one.is_end ∙ sym two.is_end)
+
+pub one_whole_message : PiecesAreOneWholeMessage
+one_whole_message input parts message other are one two =
+    let same = all_same input parts message.fields other.fields message.wire_fault other.wire_fault are one.are_fields two.are_fields in
+    message_same message other same.0 same.1 (one.is_end ∙ sym two.is_end)

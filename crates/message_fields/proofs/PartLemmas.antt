@@ -2,11 +2,11 @@
 use Rattle.std.proofs.Common.{◌≡◌, ℕ, ◌+◌, ◌-◌, ◌<◌, ◌≤◌, List, [], ◌∷◌, ◌++◌, length, take, drop, slice_range, sym, ap, subst, ◌∙◌, refl, arith}
 use Rattle.std.proofs.lemmas.List.{append_assoc, length-append, length-take-le, length-drop, take-take, drop-take, drop_at, take_at, drop-drop, append-nil}
 use Rattle.std.specs.Borrow.{Bor}
-use Rattle.wire_format.specs.declared.field.Payload.TheVariants.{Bytes, Group}
+use Rattle.wire_format.specs.declared.field.Payload.TheVariants.{Eight, Bytes, Group, Four}
 use Rattle.wire_format.specs.Varints.{GoOn}
 use Rattle.wire_format.specs.Fields.{IsHeader, IsField}
-use Rattle.message_fields.specs.declared.field.Held.TheVariants.{Bytes as HeldBytes, Group as HeldGroup}
-use Rattle.message_fields.specs.Fields.{IsContent, IsGroupContent}
+use Rattle.message_fields.specs.declared.field.Held.TheVariants.{Eight as HeldEight, Bytes as HeldBytes, Group as HeldGroup, Four as HeldFour}
+use Rattle.message_fields.specs.Fields.{IsContent, IsGroupContent, IsFixed}
 
 -- how many bytes a part has
 pub length_part : (input : List ℕ) (begin end : ℕ) → begin ≤ end → end ≤ length input →
@@ -105,3 +105,47 @@ group_held_inside input at end number size content before within field is_size =
           ∙ at_front input at end field.start (content.now ++ field.end) before within whole)) field.is_start;
       is_before = omega (arith, all, start);
     }
+
+-- eight bytes stand at the end of their field
+pub eight_held_at_end : (input : List ℕ) (at end number value : ℕ) → at ≤ end → end ≤ length input →
+    IsField (slice_range input at end) number (Eight value) →
+    (8 ≤ end) × IsFixed input end 8 HeldEight (HeldEight (record { begin = end - 8; end = end }))
+eight_held_at_end input at end number value before within field =
+    let long : 8 ≤ end = omega (
+      arith,
+      length_part input at end before within,
+      ap length field.is_whole,
+      length-append field.header field.body,
+      field.is_plain.0,
+    ) in (
+      long,
+      record {
+        part = record { begin = end - 8; end = end };
+        is_held = refl;
+        is_part = (omega arith, within);
+        is_long = omega (arith, long);
+        ends = refl;
+      },
+    )
+
+-- four bytes stand at the end of their field
+pub four_held_at_end : (input : List ℕ) (at end number value : ℕ) → at ≤ end → end ≤ length input →
+    IsField (slice_range input at end) number (Four value) →
+    (4 ≤ end) × IsFixed input end 4 HeldFour (HeldFour (record { begin = end - 4; end = end }))
+four_held_at_end input at end number value before within field =
+    let long : 4 ≤ end = omega (
+      arith,
+      length_part input at end before within,
+      ap length field.is_whole,
+      length-append field.header field.body,
+      field.is_plain.0,
+    ) in (
+      long,
+      record {
+        part = record { begin = end - 4; end = end };
+        is_held = refl;
+        is_part = (omega arith, within);
+        is_long = omega (arith, long);
+        ends = refl;
+      },
+    )

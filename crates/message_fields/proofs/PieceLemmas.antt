@@ -1,5 +1,5 @@
 -- Reading a piece of a message, field by field.
-use Rattle.std.proofs.Common.{◌≡◌, ℕ, ◌+◌, ◌-◌, ◌<◌, ◌≤◌, List, [], ◌∷◌, ◌++◌, Option, Some, None, Result, Ok, length, take, drop, slice_range, refl, sym, ap, subst, ◌∙◌, arith}
+use Rattle.std.proofs.Common.{◌≡◌, ℕ, ◌+◌, ◌-◌, ◌<◌, ◌≤◌, Bool, List, [], ◌∷◌, ◌++◌, Option, Some, None, Result, Ok, length, take, drop, slice_range, refl, sym, ap, subst, ◌∙◌, arith}
 use Rattle.std.specs.List.{filter}
 use Rattle.std.proofs.lemmas.List.{append_assoc, length-drop, length-take-le, take_all}
 use Rattle.std.proofs.lemmas.List.Elements.{filter-append}
@@ -10,17 +10,16 @@ use Rattle.wire_format.specs.Faults.{IsFault, HasNoField}
 use Rattle.wire_format.specs.Readers.{Reading, IsRead as IsFieldRead, IsFaulty, IsNext}
 use Rattle.wire_format.proofs.FieldLemmas.{field_some, fault_within}
 use Rattle.message_fields.specs.declared.field.Part.{Part}
-use Rattle.message_fields.specs.declared.field.Known.{Known}
 use Rattle.message_fields.specs.declared.field.PlacedField.{PlacedField}
 use Rattle.message_fields.specs.Fields.{IsPartOf, bytes_in, IsFieldIn, AreFieldsIn}
-use Rattle.message_fields.specs.Readings.{is_known, IsRead}
+use Rattle.message_fields.specs.Readings.{IsRead}
 use Rattle.message_fields.proofs.PartLemmas.{length_part, part_of_part}
 
 -- of a piece these fields were read so far, and what the table knows of them was added
-pub record ReadSoFar (known : List Known) (input : List ℕ) (part : Part) (old new : List PlacedField) (reader : Reading) : Type 0 where
+pub record ReadSoFar (kept : PlacedField → Bool) (input : List ℕ) (part : Part) (old new : List PlacedField) (reader : Reading) : Type 0 where
   pub fields : List PlacedField
   pub are_fields : AreFieldsIn input part.begin fields (part.begin + reader.at)
-  pub is_added : new ≡ old ++ filter (is_known known) fields
+  pub is_added : new ≡ old ++ filter kept fields
   pub is_piece : reader.bytes ≡ bytes_in input part
   pub is_within : reader.at ≤ part.end - part.begin
   pub has_no_fault : reader.fault ≡ None
@@ -35,7 +34,7 @@ pub record StandsIn (input : List ℕ) (part : Part) (old : Reading) (field : Fi
   pub keeps : new.fault ≡ old.fault
 
 -- a reader read a field of the piece
-stands_in : (input : List ℕ) (part : Part) (old new : Reading) (field : Field) → IsPartOf input part →
+pub stands_in : (input : List ℕ) (part : Part) (old new : Reading) (field : Field) → IsPartOf input part →
     old.bytes ≡ bytes_in input part → old.at ≤ part.end - part.begin → IsFieldRead old field new → StandsIn input part old field new
 stands_in input part old new field is_part piece within read =
     let long = length_part input part.begin part.end is_part.0 is_part.1 in
@@ -63,11 +62,11 @@ stands_in input part old new field is_part piece within read =
     }
 
 -- the next field of a piece, as a call of the reader gave it
-pub next_stands : (known : List Known) (input : List ℕ) (part : Part) (fields now : List PlacedField) (old new : Reading)
+pub next_stands : (kept : PlacedField → Bool) (input : List ℕ) (part : Part) (fields now : List PlacedField) (old new : Reading)
     (result : Result (Option Field) WireFault) (found : Option Field) (field : Field) → IsPartOf input part →
-    ReadSoFar known input part fields now old → (old.fault ≡ None → IsNext old result new) → result ≡ Ok found → found ≡ Some field →
+    ReadSoFar kept input part fields now old → (old.fault ≡ None → IsNext old result new) → result ≡ Ok found → found ≡ Some field →
     StandsIn input part old field new
-next_stands known input part fields now old new result found field is_part so_far next ok some =
+next_stands kept input part fields now old new result found field is_part so_far next ok some =
     stands_in input part old new field is_part so_far.is_piece so_far.is_within
     (subst (λ told. IsNext old told new) (ok ∙ ap Ok some) (next so_far.has_no_fault))
 
@@ -91,28 +90,28 @@ one_more input (first ∷ fields) begin field end are is_field before = record {
 }
 
 -- a field that was read is one more
-pub read_more : (known : List Known) (input : List ℕ) (part : Part) (old new added : List PlacedField) (reader next : Reading)
-    (field : Field) (placed : PlacedField) → ReadSoFar known input part old new reader → StandsIn input part reader field next →
+pub read_more : (kept : PlacedField → Bool) (input : List ℕ) (part : Part) (old new added : List PlacedField) (reader next : Reading)
+    (field : Field) (placed : PlacedField) → ReadSoFar kept input part old new reader → StandsIn input part reader field next →
     IsFieldIn input placed (part.begin + next.at) → placed.at ≡ part.begin + field.at →
-    added ≡ new ++ filter (is_known known) (placed ∷ []) → ReadSoFar known input part old added next
-read_more known input part old new added reader next field placed so_far stands is_field at is_added = record {
+    added ≡ new ++ filter kept (placed ∷ []) → ReadSoFar kept input part old added next
+read_more kept input part old new added reader next field placed so_far stands is_field at is_added = record {
   fields = so_far.fields ++ placed ∷ [];
   are_fields = one_more input so_far.fields part.begin placed (part.begin + next.at)
       (subst (AreFieldsIn input part.begin so_far.fields) (ap (λ place. part.begin + place) (sym stands.is_next) ∙ sym at) so_far.are_fields)
       is_field (omega (arith, at, stands.is_next, stands.goes_on));
-  is_added = is_added ∙ ap (λ front. front ++ filter (is_known known) (placed ∷ [])) so_far.is_added
-      ∙ append_assoc old (filter (is_known known) so_far.fields) (filter (is_known known) (placed ∷ []))
-      ∙ ap (λ back. old ++ back) (sym (filter-append (is_known known) so_far.fields (placed ∷ [])));
+  is_added = is_added ∙ ap (λ front. front ++ filter kept (placed ∷ [])) so_far.is_added
+      ∙ append_assoc old (filter kept so_far.fields) (filter kept (placed ∷ []))
+      ∙ ap (λ back. old ++ back) (sym (filter-append kept so_far.fields (placed ∷ [])));
   is_piece = stands.is_same ∙ so_far.is_piece;
   is_within = stands.is_within;
   has_no_fault = stands.keeps ∙ so_far.has_no_fault;
 }
 
 -- nothing is left of the piece
-pub read_whole : (known : List Known) (input : List ℕ) (part : Part) (old new : List PlacedField) (reader : Reading) →
-    IsPartOf input part → ReadSoFar known input part old new reader → drop reader.at reader.bytes ≡ [] →
-    IsRead known input part old new None
-read_whole known input part old new reader is_part so_far none =
+pub read_whole : (kept : PlacedField → Bool) (input : List ℕ) (part : Part) (old new : List PlacedField) (reader : Reading) →
+    IsPartOf input part → ReadSoFar kept input part old new reader → drop reader.at reader.bytes ≡ [] →
+    IsRead kept input part old new None
+read_whole kept input part old new reader is_part so_far none =
     let long = length_part input part.begin part.end is_part.0 is_part.1 in
     let end : part.begin + reader.at ≡ part.end
     = omega (arith, is_part.0, so_far.is_within, ap length none, length-drop reader.at reader.bytes, ap length so_far.is_piece, long) in
@@ -123,7 +122,7 @@ read_whole known input part old new reader is_part so_far none =
     }
 
 -- what is left of a piece
-rest_of : (input : List ℕ) (part : Part) (reader : Reading) → IsPartOf input part → reader.bytes ≡ bytes_in input part →
+pub rest_of : (input : List ℕ) (part : Part) (reader : Reading) → IsPartOf input part → reader.bytes ≡ bytes_in input part →
     reader.at ≤ part.end - part.begin → drop reader.at reader.bytes ≡ slice_range input (part.begin + reader.at) part.end
 rest_of input part reader is_part piece within =
     let size : ℕ = part.end - part.begin - reader.at in
@@ -137,10 +136,10 @@ rest_of input part reader is_part piece within =
     ∙ ap (slice_range input (part.begin + reader.at)) end
 
 -- the piece is at fault
-pub read_faulty : (known : List Known) (input : List ℕ) (part : Part) (old new : List PlacedField) (reader next : Reading)
-    (found told : WireFault) → IsPartOf input part → ReadSoFar known input part old new reader → IsFaulty reader found next →
-    (told.at ≡ part.begin + found.at) × (told.reason ≡ found.reason) → IsRead known input part old new (Some told)
-read_faulty known input part old new reader next found told is_part so_far faulty same = record {
+pub read_faulty : (kept : PlacedField → Bool) (input : List ℕ) (part : Part) (old new : List PlacedField) (reader next : Reading)
+    (found told : WireFault) → IsPartOf input part → ReadSoFar kept input part old new reader → IsFaulty reader found next →
+    (told.at ≡ part.begin + found.at) × (told.reason ≡ found.reason) → IsRead kept input part old new (Some told)
+read_faulty kept input part old new reader next found told is_part so_far faulty same = record {
   fields = so_far.fields;
   is_piece = record {
     place = part.begin + reader.at;

@@ -102,34 +102,34 @@ slice_is input content begin end stands =
     ap (λ size. take size (drop begin input)) long ∙ ap (take (length content)) rest ∙ take-append_seam content stands.back
 
 -- they stand within the input
-within : (input content : List ℕ) (begin end : ℕ) → StandsAt input content begin end → (begin ≤ end) × (end ≤ length input) × (length content ≤ length input)
+pub within : (input content : List ℕ) (begin end : ℕ) → StandsAt input content begin end → (begin ≤ end) × (end ≤ length input) × (length content ≤ length input)
 within input content begin end stands =
     let whole = ap length stands.is_whole in
     let front = length-append stands.front (content ++ stands.back) in
     let back = length-append content stands.back in
     (omega (arith, stands.ends), omega (arith, stands.ends, stands.begins, whole, front, back), omega (arith, whole, front, back))
 
--- the first field of some
-first_stands : (input : List ℕ) (begin end : ℕ) (field : Written) (fields : List Written) →
-    StandsAt input (written (field ∷ fields)) begin end → StandsAt input (spelled field) begin (begin + length (spelled field))
-first_stands input begin end field fields stands = record {
+-- the first of two texts of bytes stands where both do
+pub front_stands : (input first rest : List ℕ) (begin end : ℕ) → StandsAt input (first ++ rest) begin end →
+    StandsAt input first begin (begin + length first)
+front_stands input first rest begin end stands = record {
   front = stands.front;
-  back = written fields ++ stands.back;
-  is_whole = stands.is_whole ∙ ap (λ rest. stands.front ++ rest) (append_assoc (spelled field) (written fields) stands.back);
+  back = rest ++ stands.back;
+  is_whole = stands.is_whole ∙ ap (λ more. stands.front ++ more) (append_assoc first rest stands.back);
   begins = stands.begins;
   ends = refl;
 }
 
--- the fields after it
-rest_stand : (input : List ℕ) (begin end : ℕ) (field : Written) (fields : List Written) →
-    StandsAt input (written (field ∷ fields)) begin end → StandsAt input (written fields) (begin + length (spelled field)) end
-rest_stand input begin end field fields stands = record {
-  front = stands.front ++ spelled field;
+-- and so does the second
+pub rest_stands : (input first rest : List ℕ) (begin end : ℕ) → StandsAt input (first ++ rest) begin end →
+    StandsAt input rest (begin + length first) end
+rest_stands input first rest begin end stands = record {
+  front = stands.front ++ first;
   back = stands.back;
-  is_whole = stands.is_whole ∙ ap (λ rest. stands.front ++ rest) (append_assoc (spelled field) (written fields) stands.back)
-      ∙ sym (append_assoc stands.front (spelled field) (written fields ++ stands.back));
-  begins = omega (arith, stands.begins, length-append stands.front (spelled field));
-  ends = omega (arith, stands.ends, length-append (spelled field) (written fields));
+  is_whole = stands.is_whole ∙ ap (λ more. stands.front ++ more) (append_assoc first rest stands.back)
+      ∙ sym (append_assoc stands.front first (rest ++ stands.back));
+  begins = omega (arith, stands.begins, length-append stands.front first);
+  ends = omega (arith, stands.ends, length-append first rest);
 }
 
 -- the content of a field
@@ -165,8 +165,8 @@ pub contents_stand : (input : List ℕ) (begin end : ℕ) (fields : List Written
     ContentsStand input begin fields
 contents_stand input begin end [] stands = tt
 contents_stand input begin end (field ∷ fields) stands = (
-  one_stands input begin (begin + length (spelled field)) field (first_stands input begin end field fields stands),
-  contents_stand input (begin + length (spelled field)) end fields (rest_stand input begin end field fields stands),
+  one_stands input begin (begin + length (spelled field)) field (front_stands input (spelled field) (written fields) begin end stands),
+  contents_stand input (begin + length (spelled field)) end fields (rest_stands input (spelled field) (written fields) begin end stands),
 )
 
 -- a field is read where it stands
@@ -205,15 +205,15 @@ starts at (a_number number value) = refl
 starts at (some_bytes number content) = refl
 
 -- fields are read where they stand
-fields_in : (input : List ℕ) (begin end : ℕ) (fields : List Written) → length input < 2 ^ 64 → AllByRecursion IsSound fields →
+pub fields_in : (input : List ℕ) (begin end : ℕ) (fields : List Written) → length input < 2 ^ 64 → AllByRecursion IsSound fields →
     StandsAt input (written fields) begin end → AreFieldsIn input begin (placed begin fields) end
 fields_in input begin end [] small sound stands = omega (arith, stands.ends)
 fields_in input begin end (field ∷ fields) small sound stands = record {
   end = begin + length (spelled field);
   is_next = starts begin field;
-  is_field = field_in input begin field small sound.0 (first_stands input begin end field fields stands);
+  is_field = field_in input begin field small sound.0 (front_stands input (spelled field) (written fields) begin end stands);
   is_after = omega arith;
-  follow = fields_in input (begin + length (spelled field)) end fields small sound.1 (rest_stand input begin end field fields stands);
+  follow = fields_in input (begin + length (spelled field)) end fields small sound.1 (rest_stands input (spelled field) (written fields) begin end stands);
 }
 
 -- the message of some fields between two places

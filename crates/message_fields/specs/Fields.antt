@@ -8,7 +8,7 @@ use Rattle.wire_format.specs.Fields.{IsHeader, IsField}
 use Rattle.wire_format.specs.Faults.{IsFault, HasNoField}
 use Rattle.message_fields.specs.declared.field.Part.{Part}
 use Rattle.message_fields.specs.declared.field.Held.{Held}
-use Rattle.message_fields.specs.declared.field.Held.TheVariants.{Varint as HeldVarint, Bytes as HeldBytes, Group as HeldGroup, Fixed}
+use Rattle.message_fields.specs.declared.field.Held.TheVariants.{Varint as HeldVarint, Eight as HeldEight, Bytes as HeldBytes, Group as HeldGroup, Four as HeldFour}
 use Rattle.message_fields.specs.declared.field.PlacedField.{PlacedField}
 
 -- the bytes of a part
@@ -44,13 +44,21 @@ pub record IsGroupContent (input : List ℕ) (at end number : ℕ) (content : Li
   pub starts : IsHeader (slice_range input at part.begin) number 3
   pub is_before : part.end ≤ end
 
+-- so many bytes stand at the end of their field
+pub record IsFixed (input : List ℕ) (end size : ℕ) (form : Part → Held) (held : Held) : Type 0 where
+  pub part : Part
+  pub is_held : held ≡ form part
+  pub is_part : IsPartOf input part
+  pub is_long : part.end ≡ part.begin + size
+  pub ends : part.end ≡ end
+
 -- what a field holds that stands from one place of the input up to another
 abbrev pub Holds : List ℕ → ℕ → ℕ → ℕ → Payload → Held → Type 0
 Holds input at end number (Varint value) held = held ≡ HeldVarint value
-Holds input at end number (Eight value) held = held ≡ Fixed
+Holds input at end number (Eight value) held = IsFixed input end 8 HeldEight held
 Holds input at end number (Bytes content) held = IsContent input end content.now held
 Holds input at end number (Group content) held = IsGroupContent input at end number content.now held
-Holds input at end number (Four value) held = held ≡ Fixed
+Holds input at end number (Four value) held = IsFixed input end 4 HeldFour held
 
 -- a field stands in the input from its place up to another
 pub record IsFieldIn (input : List ℕ) (field : PlacedField) (end : ℕ) : Type 0 where

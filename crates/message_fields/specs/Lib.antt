@@ -1,5 +1,6 @@
 pub mod Fields
 pub mod Readings
+pub mod Unknown
 pub mod Lookups
 pub mod Faults
 pub mod Tables

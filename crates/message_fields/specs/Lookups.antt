@@ -3,7 +3,7 @@ use Rattle.std.specs.Prelude.{ℕ, Bool, ◌==◌, if◌then◌else◌, List, []
 use Rattle.std.specs.List.{filter, filter_map, last_or, AllByRecursion}
 use Rattle.message_fields.specs.declared.field.Part.{Part}
 use Rattle.message_fields.specs.declared.field.Held.{Held}
-use Rattle.message_fields.specs.declared.field.Held.TheVariants.{Varint, Bytes, Group, Fixed}
+use Rattle.message_fields.specs.declared.field.Held.TheVariants.{Varint, Eight, Bytes, Group, Four}
 use Rattle.message_fields.specs.declared.field.PlacedField.{PlacedField}
 use Rattle.message_fields.specs.Fields.{IsPartOf, ArePartsOf, bytes_in}
 
@@ -24,21 +24,24 @@ abbrev pub varint_held : Held → Option ℕ
 varint_held (Varint value) = Some value
 varint_held (Bytes part) = None
 varint_held (Group part) = None
-varint_held Fixed = None
+varint_held (Eight part) = None
+varint_held (Four part) = None
 
 -- where a length-delimited content stands
 abbrev pub bytes_held : Held → Option Part
 bytes_held (Varint value) = None
 bytes_held (Bytes part) = Some part
 bytes_held (Group part) = None
-bytes_held Fixed = None
+bytes_held (Eight part) = None
+bytes_held (Four part) = None
 
 -- where the content of a group stands
 abbrev pub group_held : Held → Option Part
 group_held (Varint value) = None
 group_held (Bytes part) = None
 group_held (Group part) = Some part
-group_held Fixed = None
+group_held (Eight part) = None
+group_held (Four part) = None
 
 -- what the field that counts holds, if there is one that holds such a thing
 abbrev pub held_by : {A : Type 0} → (Held → Option A) → Option PlacedField → Option A
@@ -79,7 +82,8 @@ abbrev pub IsWithin : List ℕ → Held → Type 0
 IsWithin input (Varint value) = Unit {0}
 IsWithin input (Bytes part) = IsPartOf input part
 IsWithin input (Group part) = IsPartOf input part
-IsWithin input Fixed = Unit {0}
+IsWithin input (Eight part) = IsPartOf input part
+IsWithin input (Four part) = IsPartOf input part
 
 -- the contents of these fields stand within the input
 abbrev pub AreWithin : List ℕ → List PlacedField → Type 0

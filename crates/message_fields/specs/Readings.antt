@@ -1,5 +1,6 @@
 -- Reading a message: the fields of its pieces, up to the first wire fault.
-use Rattle.std.specs.Prelude.{◌≡◌, ◌⊎◌, ℕ, Bool, ◌==◌, List, [], ◌∷◌, ◌++◌, Option, Some, None}
+use Rattle.std.specs.Prelude.{◌≡◌, ◌⊎◌, ℕ, Bool, true, ◌==◌, List, [], ◌∷◌, ◌++◌, Option, Some, None}
+use Rattle.std.specs.Borrow.{Bor}
 use Rattle.std.specs.List.{filter, list_any, AllZip}
 use Rattle.wire_format.specs.declared.fault.WireFault.{WireFault}
 use Rattle.message_fields.specs.declared.field.Part.{Part}
@@ -37,11 +38,20 @@ abbrev pub end_of : ℕ → List Part → ℕ
 end_of end [] = end
 end_of end (part ∷ parts) = end_of part.end parts
 
--- a message as these pieces have it: of its fields those that its table knows
-pub record IsReading (known : List Known) (input : List ℕ) (parts : List Part) (message : Message) : Type 0 where
+-- a message as these pieces have it: of its fields those that are kept
+pub record IsReadingOf (kept : PlacedField → Bool) (input : List ℕ) (parts : List Part) (message : Message) : Type 0 where
   pub fields : List PlacedField
   pub are_fields : AreFieldsOf input parts fields message.wire_fault
-  pub are_known : message.fields ≡ filter (is_known known) fields
+  pub are_known : message.fields ≡ filter kept fields
+  pub is_end : message.end ≡ end_of 0 parts
+
+-- a message as these pieces have it: of its fields those that its table knows
+abbrev pub IsReading : List Known → List ℕ → List Part → Message → Type 0
+IsReading known = IsReadingOf (is_known known)
+
+-- a message as these pieces have it, with all its fields
+pub record IsWholeReading (input : List ℕ) (parts : List Part) (message : Message) : Type 0 where
+  pub are_fields : AreFieldsOf input parts message.fields message.wire_fault
   pub is_end : message.end ≡ end_of 0 parts
 
 -- what was found of a piece: whole fields, or fields up to a fault
@@ -49,11 +59,16 @@ abbrev pub IsPieceRead : List ℕ → Part → List PlacedField → Option WireF
 IsPieceRead input part fields None = AreFieldsIn input part.begin fields part.end
 IsPieceRead input part fields (Some fault) = IsFaultyPart input part fields fault
 
--- a piece was read: those of its fields that the table knows were added
-pub record IsRead (known : List Known) (input : List ℕ) (part : Part) (old new : List PlacedField) (fault : Option WireFault) : Type 0 where
+-- a field is kept: one that a table knows, or any field without a table
+abbrev pub is_kept : Option (Bor (List Known)) → PlacedField → Bool
+is_kept None field = true
+is_kept (Some known) field = is_known known.now field
+
+-- a piece was read: those of its fields that are kept were added
+pub record IsRead (kept : PlacedField → Bool) (input : List ℕ) (part : Part) (old new : List PlacedField) (fault : Option WireFault) : Type 0 where
   pub fields : List PlacedField
   pub is_piece : IsPieceRead input part fields fault
-  pub is_added : new ≡ old ++ filter (is_known known) fields
+  pub is_added : new ≡ old ++ filter kept fields
 
 -- messages that have one of these pieces each
 abbrev pub AreReadings : List Known → List ℕ → List Part → List Message → Type 0

@@ -27,8 +27,10 @@ pub enum Held {
     Varint(u64),
     Bytes(Part),
     Group(Part),
-    /// Eight or four bytes, which no message here has.
-    Fixed,
+    /// Eight bytes, where they stand.
+    Eight(Part),
+    /// Four bytes, where they stand.
+    Four(Part),
 }
 
 /// A field of a message: its number, the place of its header in the input, and what it holds.

@@ -1,7 +1,7 @@
 ghost use Rattle.std.specs.Prelude.{◌≡◌, ◌≤◌, List, ◌++◌, ◌∷◌, [], Some, None, IfOk, MatchOption};
 ghost use Rattle.std.specs.List.{AllByRecursion, find};
 ghost use Rattle.message_fields.specs.Fields.{IsPartOf, bytes_in};
-ghost use Rattle.message_fields.specs.Readings.{IsReading};
+ghost use Rattle.message_fields.specs.Readings.{IsReading, IsWholeReading};
 ghost use Rattle.message_fields.specs.Lookups.{has, last_of, number_of, content_of, bytes_of, bytes_in_field, parts_of, groups_of, parts_by, bytes_held, group_held, AreWithin, StandWith};
 ghost use Rattle.message_fields.specs.Faults.{wrong_kind, is_of_kind, is_of_wrong_kind, wire_fault, missing, fault_at, fault_of};
 
@@ -11,7 +11,8 @@ use std::alloc::Global;
 use wire_fields::{List, NoMemory};
 use wire_format::WireFault;
 
-/// The fields of a message that its table knows, in order, as its pieces have them up to the first wire fault.
+/// The fields of a message, in order, as its pieces have them up to the first wire fault: all, or those that its table
+/// knows.
 #[derive(Debug, Drop)]
 pub struct Message {
     pub fields: List<PlacedField>,
@@ -107,6 +108,17 @@ impl Message {
     {
         let parts = self.parts(alloc, number)?;
         Message::read(alloc, input, parts.as_slice(), known)
+    }
+
+    /// The inner message of this number with all its fields, read from all its pieces, in time and memory linear in
+    /// the fields of both.
+    pub fn inner_whole(&self, alloc: Global, input: &[u8], number: u32) -> Result<Message, NoMemory>
+        requires { AreWithin input.now self.now.fields }
+        ensures reading { IfOk result (λ message. IsWholeReading input.now (parts_of number self.now.fields) message) }
+        ensures within { IfOk result (λ message. AreWithin input.now message.fields) }
+    {
+        let parts = self.parts(alloc, number)?;
+        Message::read_whole(alloc, input, parts.as_slice())
     }
 
     /// The fault of bytes that are no fields.

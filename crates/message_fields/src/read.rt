@@ -4,7 +4,7 @@ ghost use Rattle.std.specs.List.{AllByRecursion, filter};
 ghost use Rattle.wire_format.specs.Varints.{GoOn};
 ghost use Rattle.wire_format.specs.Fields.{IsField};
 ghost use Rattle.message_fields.specs.Fields.{IsPartOf, ArePartsOf, IsFieldIn, Holds, bytes_in};
-ghost use Rattle.message_fields.specs.Readings.{IsReading, IsRead, is_known, end_of};
+ghost use Rattle.message_fields.specs.Readings.{IsReading, IsReadingOf, IsWholeReading, IsRead, is_kept, is_known, end_of};
 ghost use Rattle.message_fields.specs.Lookups.{AreWithin};
 
 use crate::field::{Held, Known, Part, PlacedField};
@@ -28,15 +28,40 @@ impl Message {
         ensures reading { IfOk result (λ message. IsReading known.now input.now parts.now message) }
         ensures within { IfOk result (λ message. AreWithin input.now message.fields) }
     {
-        let mut fields = Vec::new(alloc);
-        for part in parts {
-            let fault = read_part(&mut fields, input, *part, known)?;
-            if fault.is_some() {
-                return Ok(message(fields, fault, parts));
-            }
-        }
-        Ok(message(fields, None, parts))
+        read_pieces(alloc, input, parts, Some(known))
     }
+
+    /// Reads the pieces of a message, which are parts of the input, up to the first wire fault, with all its fields.
+    ///
+    /// It takes time and memory linear in the fields of the pieces.
+    pub fn read_whole(alloc: Global, input: &[u8], parts: &[Part]) -> Result<Message, NoMemory>
+        requires { ArePartsOf input.now parts.now }
+        ensures reading { IfOk result (λ message. IsWholeReading input.now parts.now message) }
+        ensures within { IfOk result (λ message. AreWithin input.now message.fields) }
+    {
+        read_pieces(alloc, input, parts, None)
+    }
+}
+
+// Reads the pieces of a message. Of its fields those are kept that the table knows, or all without a table.
+fn read_pieces(
+    alloc: Global,
+    input: &[u8],
+    parts: &[Part],
+    known: Option<&[Known]>,
+) -> Result<Message, NoMemory>
+    requires { ArePartsOf input.now parts.now }
+    ensures reading { IfOk result (λ message. IsReadingOf (is_kept known.entry) input.now parts.now message) }
+    ensures within { IfOk result (λ message. AreWithin input.now message.fields) }
+{
+    let mut fields = Vec::new(alloc);
+    for part in parts {
+        let fault = read_part(&mut fields, input, *part, known)?;
+        if fault.is_some() {
+            return Ok(message(fields, fault, parts));
+        }
+    }
+    Ok(message(fields, None, parts))
 }
 
 // What was read of these pieces.
@@ -61,15 +86,15 @@ fn end_of(parts: &[Part]) -> usize
     end
 }
 
-// Adds the known fields of a piece, up to its fault.
+// Adds the fields of a piece that are kept, up to its fault.
 fn read_part(
     fields: &mut Vec<PlacedField>,
     input: &[u8],
     part: Part,
-    known: &[Known],
+    known: Option<&[Known]>,
 ) -> Result<Option<WireFault>, NoMemory>
     requires { IsPartOf input.now part }
-    ensures { IfOk result (λ fault. IsRead known.now input.now part fields.old.items fields.new.items fault) }
+    ensures { IfOk result (λ fault. IsRead (is_kept known.entry) input.now part fields.old.items fields.new.items fault) }
 {
     let mut reader = FieldReader::new(content(input, part));
     loop {
@@ -79,19 +104,19 @@ fn read_part(
             Err(fault) => return Ok(Some(fault_in(part, fault))),
         };
         let placed = placed(input, part.begin, part.begin + reader.place(), &field);
-        push_known(fields, placed, known)?;
+        push_kept(fields, placed, known)?;
     }
 }
 
-// Adds a field that the table knows.
-fn push_known(
+// Adds a field that is kept.
+fn push_kept(
     fields: &mut Vec<PlacedField>,
     field: PlacedField,
-    known: &[Known],
+    known: Option<&[Known]>,
 ) -> Result<(), NoMemory>
-    ensures { OnOk result (fields.new.items ≡ fields.old.items ++ filter (is_known known.now) (field ∷ [])) }
+    ensures { OnOk result (fields.new.items ≡ fields.old.items ++ filter (is_kept known.entry) (field ∷ [])) }
 {
-    if is_known(&field, known) {
+    if is_kept(&field, known) {
         fields.push(field)?;
     }
     Ok(())
@@ -108,15 +133,25 @@ fn fault_in(part: Part, fault: WireFault) -> WireFault
     }
 }
 
+// Whether the field is kept.
+fn is_kept(field: &PlacedField, known: Option<&[Known]>) -> bool
+    ensures { result ≡ is_kept known.entry field.now }
+{
+    match known {
+        None => true,
+        Some(known) => is_known(field, known),
+    }
+}
+
 // Whether the table has the field.
-fn is_known(field: &PlacedField, known: &[Known]) -> bool
+pub(crate) fn is_known(field: &PlacedField, known: &[Known]) -> bool
     ensures { result ≡ is_known known.now field.now }
 {
     known.iter().any(|entry| entry.0 == field.number)
 }
 
 // A field that was read from a part of the input, and that ends at a place of the input.
-fn placed(input: &[u8], begin: usize, end: usize, field: &Field<'_>) -> PlacedField
+pub(crate) fn placed(input: &[u8], begin: usize, end: usize, field: &Field<'_>) -> PlacedField
     requires before { begin + field.now.at ≤ end }
     requires within { end ≤ length input.now }
     requires is_field { IsField (slice_range input.now (begin + field.now.at) end) field.now.number field.now.payload }
@@ -151,7 +186,14 @@ fn held(input: &[u8], at: usize, end: usize, number: u32, payload: Payload<'_>) 
                 end: begin + content.len(),
             })
         }
-        Payload::Eight(_) | Payload::Four(_) => Held::Fixed,
+        Payload::Eight(_) => Held::Eight(Part {
+            begin: end - 8,
+            end,
+        }),
+        Payload::Four(_) => Held::Four(Part {
+            begin: end - 4,
+            end,
+        }),
     }
 }
 

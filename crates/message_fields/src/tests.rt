@@ -278,7 +278,58 @@ fn fields_that_say_nothing_are_left_out(rt: HostRuntime) -> Result<(), Fail> {
     Ok(())
 }
 
+// 4: 7 and 5: "x" in longer spellings, 1: 1, 6: eight bytes, 7: four bytes, 8: a group with 1: 1 in a longer spelling.
+const LONG: &[u8] =
+    b"\xa0\x00\x87\x00\x2a\x81\x00x\x08\x01\x3112345678\x3dabcd\x43\x08\x81\x00\xc4\x00";
+
+// Its fields but the known one, each as short as it can be.
+const SHORT: &[u8] = b"\x20\x07\x2a\x01x\x3112345678\x3dabcd\x43\x08\x81\x00\x44";
+
+#[test]
+fn unknown_fields_are_told_in_their_order_as_short_as_can_be(rt: HostRuntime) -> Result<(), Fail> {
+    let message = Message::read_whole(rt.alloc(), LONG, &[Part::whole(LONG)])?;
+    assert_eq!(rt; message.fields.len(), 6);
+    assert_eq!(rt; message.varint(1), Some(1));
+    let extra = message.unknown(rt.alloc(), LONG, &TABLE)?;
+    assert_eq!(rt; extra.as_slice(), SHORT);
+    let all = message.unknown(rt.alloc(), LONG, &[])?;
+    assert_eq!(rt; all.len(), SHORT.len() + 2);
+    Ok(())
+}
+
+#[test]
+fn unknown_fields_of_all_pieces_are_joined(rt: HostRuntime) -> Result<(), Fail> {
+    let input = b"\x12\x02\x20\x05\x08\x07\x12\x04\x08\x01\x20\x06";
+    let outer = Message::read(rt.alloc(), input, &[Part::whole(input)], &TABLE)?;
+    let inner = outer.inner_whole(rt.alloc(), input, 2)?;
+    assert_eq!(rt; inner.varint(1), Some(1));
+    let extra = inner.unknown(rt.alloc(), input, &TABLE)?;
+    assert_eq!(rt; extra.as_slice(), b"\x20\x05\x20\x06".as_slice());
+    let bytes = with_extra(rt.alloc(), b"\x08\x01", extra.as_slice())?;
+    assert_eq!(rt; bytes.as_slice(), b"\x08\x01\x20\x05\x20\x06".as_slice());
+    Ok(())
+}
+
+#[test]
+fn an_extra_is_canonical_where_it_is_unknown_fields_of_least_length(rt: HostRuntime) {
+    let rows: [(&[u8], bool); 9] = [
+        (b"", true),
+        (b"\x20\x07", true),
+        (SHORT, true),
+        (LONG, false),
+        (b"\x0a", false),
+        (b"\x0a\x00", false),
+        (b"\x20\x87\x00", false),
+        (b"\xa0\x00\x07", false),
+        (b"\x43\x08\x81\x00\xc4\x00", false),
+    ];
+    for (extra, canonical) in rows {
+        assert_eq!(rt; is_canonical_extra(&TABLE, extra), canonical);
+    }
+}
+
 #[test]
 fn has_laws() {
     pieces_are_one_message();
+    extras_are_canonical();
 }
