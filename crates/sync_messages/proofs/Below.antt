@@ -8,12 +8,6 @@ use Rattle.wire_format.specs.Faults.{IsNumber}
 use Rattle.wire_format.specs.Spellings.{header_of}
 use Rattle.wire_format.proofs.WrittenFields.{least_varint}
 use Rattle.client_tags.specs.Hashes.{hash_text, IsHash}
-use Rattle.message_fields.specs.declared.field.Known.{Known}
-use Rattle.message_fields.specs.declared.message.Message.{Message}
-use Rattle.message_fields.proofs.WrittenMessages.{message_of}
-use Rattle.sync_values.specs.declared.value.PassKind.{PassKind}
-use Rattle.sync_values.specs.declared.value.PassKind.TheVariants.{Implicit, Keystore, Frozen, Custom, Vault}
-use Rattle.sync_values.specs.PassKinds.{pass_kind_number}
 
 -- the header of a number and a kind is one
 pub header_is : (number kind : ℕ) → kind < 8 → IsNumber number → IsHeader (header_of number kind) number kind
@@ -27,15 +21,3 @@ header_is number kind small is = record {
 pub decode_of-hash_text : (bytes : List ℕ) → IsHash bytes → decode_of standard (hash_text bytes) ≡ Ok bytes
 unfolding hash_text
 decode_of-hash_text bytes is = decode_of-encode_of standard bytes refl is.are_bytes
-
--- nothing of a message
-abbrev pub nothing : List Known → Message
-nothing known = message_of known 0 0 []
-
--- the number of a passphrase's kind fits a varint
-pub kind_small : (kind : PassKind) → pass_kind_number kind < 2 ^ 64
-kind_small Implicit = omega arith
-kind_small Keystore = omega arith
-kind_small Frozen = omega arith
-kind_small Custom = omega arith
-kind_small Vault = omega arith

@@ -21,7 +21,10 @@ use Rattle.sync_specifics.specs.declared.specifics.Specifics.{Specifics}
 use Rattle.sync_specifics.specs.SealedTexts.{sealed_fields}
 use Rattle.sync_specifics.specs.Preferences.{preference_fields}
 use Rattle.sync_specifics.specs.Specifics.{specifics_fields, password_fields, nigori_fields, AreSpecificsFields, specifics_fault, specifics_of, specifics_bytes}
-use Rattle.sync_messages.proofs.Below.{decode_of-hash_text, nothing}
+use Rattle.message_fields.proofs.WrittenExtras.{nothing_whole}
+use Rattle.sync_specifics.proofs.SpecificsInside.{nothing, specifics_inside}
+use Rattle.sync_specifics.specs.Extras.{HasCanonicalExtraIfSome}
+use Rattle.sync_messages.proofs.Below.{decode_of-hash_text}
 use Rattle.sync_messages.specs.declared.message.Entity.{Entity}
 use Rattle.sync_messages.specs.declared.entity.EntityFields.{EntityFields}
 use Rattle.sync_messages.specs.Entities.{entity_fields, AreEntityFields, entity_fault, hash_in, entity_of, AreEntitiesIn}
@@ -30,7 +33,6 @@ use Rattle.sync_messages.specs.Laws.{IsHashIfSome, IsEntity, EntitiesAreRead}
 use Rattle.sync_messages.proofs.FieldRuns.{Run, numbers, contents, run_bytes, all_fields, pieces_are, HasRun, runs_message, runs_read, right_kinds, IsRunIn, run_in}
 use Rattle.sync_messages.proofs.RunReadings.{unless_empty, unless_zero, bytes_are, varint_is, values_fit, text_is, text_if_some, number_is, Stand, ArePartsFor, parts_are}
 use Rattle.sync_messages.proofs.ListsRead.{no_first, IsReadAs, list_read, all_said}
-use Rattle.sync_messages.proofs.SpecificsInside.{specifics_inside}
 
 -- the number of a flag
 abbrev flag_number : Bool → ℕ
@@ -118,9 +120,9 @@ record AreInside (input : List ℕ) (parts : List Part) (specifics : Option Spec
   pub no_fault : None ≡ specifics_fault all
   pub is_said : specifics ≡ specifics_of input all
 
-specifics_of_parts : (input : List ℕ) (specifics : Option Specifics) (parts : List Part) → length input < 2 ^ 64 →
+specifics_of_parts : (input : List ℕ) (specifics : Option Specifics) (parts : List Part) → HasCanonicalExtraIfSome specifics → length input < 2 ^ 64 →
     Stand input parts (specifics_texts specifics) → AreInside input parts specifics
-specifics_of_parts input None [] small stand = record {
+specifics_of_parts input None [] canonical small stand = record {
   all = record {
     own = nothing specifics_fields;
     sealed = nothing sealed_fields;
@@ -133,7 +135,7 @@ specifics_of_parts input None [] small stand = record {
   are_fields = record {
     own = nothing_is_read specifics_fields input;
     sealed = nothing_is_read sealed_fields input;
-    preference = nothing_is_read preference_fields input;
+    preference = nothing_whole input;
     password = nothing_is_read password_fields input;
     sealed_password = nothing_is_read sealed_fields input;
     nigori = nothing_is_read nigori_fields input;
@@ -142,12 +144,12 @@ specifics_of_parts input None [] small stand = record {
   no_fault = refl;
   is_said = refl;
 }
-specifics_of_parts input None (part ∷ parts) small stand = absurd stand
-specifics_of_parts input (Some specifics) [] small stand = absurd stand
-specifics_of_parts input (Some specifics) (part ∷ []) small stand =
-    let inside = specifics_inside input specifics part.begin part.end small stand.0 in
+specifics_of_parts input None (part ∷ parts) canonical small stand = absurd stand
+specifics_of_parts input (Some specifics) [] canonical small stand = absurd stand
+specifics_of_parts input (Some specifics) (part ∷ []) canonical small stand =
+    let inside = specifics_inside input specifics part.begin part.end canonical small stand.0 in
     record { all = inside.all; are_fields = inside.are_fields; no_fault = inside.no_fault; is_said = inside.is_said }
-specifics_of_parts input (Some specifics) (part ∷ other ∷ parts) small stand = absurd stand.1
+specifics_of_parts input (Some specifics) (part ∷ other ∷ parts) canonical small stand = absurd stand.1
 
 entity_same : (a b : Entity) → a.id ≡ b.id → a.version ≡ b.version → a.deleted ≡ b.deleted → a.specifics ≡ b.specifics → a.hash ≡ b.hash → a ≡ b
 entity_same a b ids versions flags specifics hashes =
@@ -181,8 +183,8 @@ entity_read input entity part small is whole =
     = run_in input 23 part.begin part.end (id_run entity ∷ version_run entity ∷ deleted_run entity ∷ specifics_run entity ∷ [])
     (hash_run entity) [] (refl, (refl, (refl, (refl, tt)))) tt stands in
     let parts = parts_are input 21 own.fields (specifics_texts entity.specifics) specifics in
-    let inside = specifics_of_parts input entity.specifics parts.parts small parts.stand in
-    let fits = version_fits entity.version is.0 in
+    let inside = specifics_of_parts input entity.specifics parts.parts is.extra small parts.stand in
+    let fits = version_fits entity.version is.fits.version in
     let all : EntityFields = record { own = own; specifics = inside.all } in
     record {
       thing = all;
@@ -204,10 +206,10 @@ entity_read input entity part small is whole =
           (inside.no_fault, (refl, (right_kinds entity_fields part.begin part.end runs (entity_has entity), tt)));
       says = entity_same entity (entity_of input all)
           (text_is input 1 own.fields entity.id id)
-          (version_said entity.version (number_or 0 4 own.fields) is.0 (number_is input 4 own.fields (cast_unsigned w64 entity.version) version))
+          (version_said entity.version (number_or 0 4 own.fields) is.fits.version (number_is input 4 own.fields (cast_unsigned w64 entity.version) version))
           (flag_said entity.deleted ∙ ap (λ number. not (number == 0)) (number_is input 18 own.fields (flag_number entity.deleted) deleted))
           inside.is_said
-          (hash_said entity.hash is.1 ∙ ap hash_in (text_if_some input 23 own.fields (text_of_hash entity.hash) hash));
+          (hash_said entity.hash is.fits.hash ∙ ap hash_in (text_if_some input 23 own.fields (text_of_hash entity.hash) hash));
     }
   where
     flag_fits : (deleted : Bool) → flag_number deleted < 2 ^ 64

@@ -2,11 +2,11 @@ pub mod Below
 pub mod ListLemmas
 pub mod LengthLemmas
 pub mod OneMessage
+pub mod SaidExtras
 pub mod FieldRuns
 pub mod RunReadings
 pub mod ListsRead
 pub mod MarkersRead
-pub mod SpecificsInside
 pub mod EntitiesRead
 pub mod RequestsRead
 pub mod GroupsRead

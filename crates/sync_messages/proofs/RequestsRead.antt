@@ -10,7 +10,7 @@ use Rattle.message_fields.specs.Lookups.{number_of, bytes_in_field}
 use Rattle.message_fields.specs.Readings.{IsReading}
 use Rattle.message_fields.specs.Faults.{said_unless, wrong_kind, missing}
 use Rattle.message_fields.proofs.WrittenMessages.{written, StandsAt, whole_stands, nothing_is_read}
-use Rattle.sync_messages.proofs.Below.{nothing}
+use Rattle.sync_specifics.proofs.SpecificsInside.{nothing}
 use Rattle.sync_messages.specs.declared.message.Commit.{Commit}
 use Rattle.sync_messages.specs.declared.message.GetUpdates.{GetUpdates}
 use Rattle.sync_messages.specs.declared.message.Request.{Request}

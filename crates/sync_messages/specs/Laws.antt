@@ -1,9 +1,10 @@
 -- What holds of all messages here, by the definitions alone.
-use Rattle.std.specs.Prelude.{◌^◌, ◌<◌, ◌≤◌, FitsSigned, Option, Some, None, Ok}
+use Rattle.std.specs.Prelude.{ℕ, ◌^◌, ◌<◌, ◌≤◌, FitsSigned, List, Option, Some, None, Ok}
 use Rattle.std.specs.Int.{w64}
 use Rattle.std.specs.List.{AllByRecursion}
 use Rattle.client_tags.specs.declared.hash.TagHash.{TagHash}
 use Rattle.client_tags.specs.Hashes.{IsHash}
+use Rattle.sync_specifics.specs.Extras.{HasCanonicalExtraIfSome}
 use Rattle.sync_specifics.specs.Laws.{SayOneThing, FitMemory}
 use Rattle.sync_messages.specs.declared.message.Entity.{Entity}
 use Rattle.sync_messages.specs.declared.message.EntryAnswer.{EntryAnswer}
@@ -36,9 +37,30 @@ abbrev pub IsHashIfSome : Option TagHash → Type 0
 IsHashIfSome None = Unit {0}
 IsHashIfSome (Some hash) = IsHash hash.bytes
 
--- an entity whose version fits its type, and whose hash has twenty bytes
-abbrev pub IsEntity : Entity → Type 0
-IsEntity entity = FitsSigned w64 entity.version × IsHashIfSome entity.hash
+-- an entity's version fits its type, and its hash has twenty bytes
+pub record FitsTypes (entity : Entity) : Type 0 where
+  pub version : FitsSigned w64 entity.version
+  pub hash : IsHashIfSome entity.hash
+
+-- an entity that bytes can say: its fields fit their types, and its extra is canonical
+pub record IsEntity (entity : Entity) : Type 0 where
+  pub fits : FitsTypes entity
+  pub extra : HasCanonicalExtraIfSome entity.specifics
+
+-- each of these entities has a canonical extra
+abbrev pub HaveCanonicalExtras : List Entity → Type 0
+HaveCanonicalExtras entities = AllByRecursion (λ (entity : Entity). HasCanonicalExtraIfSome entity.specifics) entities
+
+-- the entities of a request have canonical extras
+abbrev pub HasCanonicalRequest : Request → Type 0
+HasCanonicalRequest (requests.Commit commit) = HaveCanonicalExtras commit.entries
+HasCanonicalRequest (requests.Updates updates) = Unit {0}
+
+-- the entities of a reply have canonical extras
+abbrev pub HasCanonicalReply : Reply → Type 0
+HasCanonicalReply (replies.Committed answers) = Unit {0}
+HasCanonicalReply (replies.Updates updates) = HaveCanonicalExtras updates.entries
+HasCanonicalReply (replies.Refused code) = Unit {0}
 
 -- a marker whose version fits its type
 abbrev pub IsMarker : Marker → Type 0
@@ -63,6 +85,19 @@ IsSayableReply (replies.Refused code) = (1 ≤ code) × (code ≤ LAST_CODE)
 -- a message that bytes can say
 abbrev pub IsSayable : FromServer → Type 0
 IsSayable message = IsSayableReply message.reply
+
+-- the extra of an entity that bytes say is canonical
+abbrev pub SaidEntitiesAreCanonical : Type 0
+SaidEntitiesAreCanonical =
+    (bytes : List ℕ) → (entity : Entity) → SaysEntity bytes (Ok entity) → HasCanonicalExtraIfSome entity.specifics
+
+-- the extras in a request that bytes say are canonical
+abbrev pub SaidRequestsAreCanonical : Type 0
+SaidRequestsAreCanonical = (bytes : List ℕ) → (message : ToServer) → SaysTo bytes (Ok message) → HasCanonicalRequest message.request
+
+-- the extras in a reply that bytes say are canonical
+abbrev pub SaidRepliesAreCanonical : Type 0
+SaidRepliesAreCanonical = (bytes : List ℕ) → (message : FromServer) → SaysFrom bytes (Ok message) → HasCanonicalReply message.reply
 
 -- the bytes of an entity say it
 abbrev pub EntitiesAreRead : Type 0

@@ -9,8 +9,8 @@ ghost use Rattle.sync_messages.specs.Lengths.{IsLength};
 ghost use Rattle.sync_messages.specs.Spellings.{entities_bytes, entity_bytes, flag_if_true, hash_if_some, specifics_if_some};
 
 use crate::field_len::{
-    len_around, len_of_both, len_of_bytes, len_of_octets, len_of_varint, len_unless_empty,
-    len_unless_zero,
+    len_around, len_as_it_is, len_of_both, len_of_bytes, len_of_octets, len_of_varint,
+    len_unless_empty, len_unless_zero,
 };
 use crate::message::Entity;
 use client_tags::TagHash;
@@ -87,7 +87,8 @@ fn preference_len(preference: &Preference) -> u64
     ensures { IsLength result (preference_bytes preference.now) }
 {
     let name = len_of_octets(1, &preference.name);
-    len_of_both(name, len_of_octets(2, &preference.value))
+    let texts = len_of_both(name, len_of_octets(2, &preference.value));
+    len_of_both(texts, len_as_it_is(&preference.extra))
 }
 
 fn sealed_len(sealed: &Sealed) -> u64

@@ -14,6 +14,13 @@ pub(crate) fn len_of_both(first: u64, second: u64) -> u64
     first.saturating_add(second)
 }
 
+// The length of bytes that are written as they are.
+pub(crate) fn len_as_it_is(bytes: &Octets) -> u64
+    ensures { IsLength result bytes.now }
+{
+    bytes.as_slice().len() as u64
+}
+
 pub(crate) fn len_of_varint(number: u32, value: u64) -> u64
     ensures { IsLength result (varint_field number value) }
 {

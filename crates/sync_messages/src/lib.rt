@@ -18,7 +18,7 @@ mod write_reply;
 mod write_request;
 
 pub use entity::decode_entity;
-pub use laws::{bytes_say_one_message, written_messages_are_read};
+pub use laws::{bytes_say_one_message, said_extras_are_canonical, written_messages_are_read};
 pub use message::{
     Commit, Entity, EntryAnswer, FromServer, GetUpdates, Marker, Outcome, Reply, Request, ToServer,
     Updates,

@@ -5,15 +5,15 @@ use Rattle.message_fields.specs.declared.field.Known.{Known}
 use Rattle.message_fields.specs.declared.message.Message.{Message}
 use Rattle.message_fields.specs.Fields.{ArePartsOf, whole_of}
 use Rattle.message_fields.specs.Lookups.{parts_of}
-use Rattle.message_fields.specs.Readings.{IsReading, AreReadings}
+use Rattle.message_fields.specs.Readings.{IsReading, IsWholeReading, AreReadings}
 use Rattle.message_fields.specs.Faults.{said_unless}
 use Rattle.message_fields.proofs.LookupLemmas.{parts_within}
 use Rattle.message_fields.proofs.MessageLemmas.{reading_within}
-use Rattle.message_fields.proofs.OneMessage.{one_message}
+use Rattle.message_fields.proofs.OneMessage.{one_message, one_whole_message}
 use Rattle.sync_specifics.specs.declared.fields.SpecificsFields.{SpecificsFields}
 use Rattle.sync_specifics.specs.SealedTexts.{sealed_fields}
-use Rattle.sync_specifics.specs.Preferences.{preference_fields, preference_fault, preference_of, SaysPreference}
-use Rattle.sync_specifics.specs.Logins.{login_fields, login_fault, login_of, SaysLogin}
+use Rattle.sync_specifics.specs.Preferences.{preference_fault, preference_of, SaysPreference}
+use Rattle.sync_specifics.specs.Logins.{login_fault, login_of, SaysLogin}
 use Rattle.sync_specifics.specs.Keys.{key_fields, key_fault, key_of, bag_fields, bag_fault, SaysKey, SaysKeys}
 use Rattle.sync_specifics.specs.Specifics.{specifics_fields, password_fields, nigori_fields, AreSpecificsFields, specifics_fault, specifics_of, SaysSpecifics}
 use Rattle.sync_specifics.specs.Laws.{SayOneThing}
@@ -27,15 +27,20 @@ pub whole_same : (known : List Known) (input : List ℕ) (a b : Message) → IsR
     IsReading known input (whole_of input ∷ []) b → a ≡ b
 whole_same known input a b one two = one_message known input (whole_of input ∷ []) a b (whole_within input) one two
 
+-- the message that all bytes are, with all its fields
+all_fields_same : (input : List ℕ) (a b : Message) → IsWholeReading input (whole_of input ∷ []) a →
+    IsWholeReading input (whole_of input ∷ []) b → a ≡ b
+all_fields_same input a b one two = one_whole_message input (whole_of input ∷ []) a b (whole_within input) one two
+
 pub one_preference : SayOneThing SaysPreference
 one_preference input said other one two =
     one.is_said ∙ ap (λ message. said_unless (preference_fault message) (preference_of input message))
-    (whole_same preference_fields input one.message two.message one.is_reading two.is_reading) ∙ sym two.is_said
+    (all_fields_same input one.message two.message one.is_reading two.is_reading) ∙ sym two.is_said
 
 pub one_login : SayOneThing SaysLogin
 one_login input said other one two =
     one.is_said ∙ ap (λ message. said_unless (login_fault message) (login_of input message))
-    (whole_same login_fields input one.message two.message one.is_reading two.is_reading) ∙ sym two.is_said
+    (all_fields_same input one.message two.message one.is_reading two.is_reading) ∙ sym two.is_said
 
 pub one_key : SayOneThing SaysKey
 one_key input said other one two =
@@ -77,13 +82,21 @@ inner_same outer known input parts number o p a b same reading one two =
     one_message known input (parts_of number o.fields) a b (message_within outer input parts o number reading) one
     (subst (λ (message : Message). IsReading known input (parts_of number message.fields) b) (sym same) two)
 
+-- an inner message with all its fields
+pub inner_whole_same : (outer : List Known) (input : List ℕ) (parts : List Part) (number : ℕ) (o p a b : Message) → o ≡ p →
+    IsReading outer input parts o → IsWholeReading input (parts_of number o.fields) a →
+    IsWholeReading input (parts_of number p.fields) b → a ≡ b
+inner_whole_same outer input parts number o p a b same reading one two =
+    one_whole_message input (parts_of number o.fields) a b (message_within outer input parts o number reading) one
+    (subst (λ (message : Message). IsWholeReading input (parts_of number message.fields) b) (sym same) two)
+
 -- the messages in the pieces of specifics
 pub all_same : (input : List ℕ) (parts : List Part) (a b : SpecificsFields) → ArePartsOf input parts → AreSpecificsFields input parts a →
     AreSpecificsFields input parts b → a ≡ b
 all_same input parts a b are one two =
     let own = one_message specifics_fields input parts a.own b.own are one.own two.own in
     let sealed = inner_same specifics_fields sealed_fields input parts 1 a.own b.own a.sealed b.sealed own one.own one.sealed two.sealed in
-    let preference = inner_same specifics_fields preference_fields input parts 37702 a.own b.own a.preference b.preference own one.own
+    let preference = inner_whole_same specifics_fields input parts 37702 a.own b.own a.preference b.preference own one.own
     one.preference two.preference in
     let password = inner_same specifics_fields password_fields input parts 45873 a.own b.own a.password b.password own one.own
     one.password two.password in

@@ -3,4 +3,5 @@ pub mod Preferences
 pub mod Logins
 pub mod Keys
 pub mod Specifics
+pub mod Extras
 pub mod Laws

@@ -6,7 +6,8 @@ use Rattle.message_fields.specs.declared.field.Known.{Known}
 use Rattle.message_fields.specs.declared.message.Message.{Message}
 use Rattle.message_fields.specs.declared.fault.MessageFault.{MessageFault}
 use Rattle.message_fields.specs.Fields.{whole_of}
-use Rattle.message_fields.specs.Readings.{IsReading}
+use Rattle.message_fields.specs.Readings.{IsWholeReading}
+use Rattle.message_fields.specs.Unknown.{extra_of}
 use Rattle.message_fields.specs.Tables.{bytes, varint}
 use Rattle.message_fields.specs.Written.{varint_unless_zero}
 use Rattle.message_fields.specs.Lookups.{bytes_of, number_or}
@@ -33,17 +34,18 @@ login_of input message = record {
   realm = bytes_of input 2 message.fields;
   secret = bytes_of input 8 message.fields;
   created = cast_signed w64 (number_or 0 11 message.fields);
+  extra = extra_of login_fields input message.fields;
 }
 
 -- what these bytes say as a login
 pub record SaysLogin (input : List ℕ) (said : Result Password MessageFault) : Type 0 where
   pub message : Message
-  pub is_reading : IsReading login_fields input (whole_of input ∷ []) message
+  pub is_reading : IsWholeReading input (whole_of input ∷ []) message
   pub is_said : said ≡ said_unless (login_fault message) (login_of input message)
 
--- its bytes
+-- its bytes: those of its fields, and then its extra
 abbrev pub login_bytes : Password → List ℕ
 login_bytes login =
     bytes_field 2 login.realm ++ bytes_field 3 login.origin ++ bytes_field 5 login.user_element
     ++ bytes_field 6 login.user_value ++ bytes_field 7 login.pass_element ++ bytes_field 8 login.secret
-    ++ varint_unless_zero 11 (cast_unsigned w64 login.created)
+    ++ varint_unless_zero 11 (cast_unsigned w64 login.created) ++ login.extra

@@ -12,7 +12,7 @@ use Rattle.message_fields.specs.declared.message.Message.{Message}
 use Rattle.message_fields.specs.declared.fault.MessageFault.{MessageFault}
 use Rattle.message_fields.specs.declared.fault.MessageReason.TheVariants.{Range}
 use Rattle.message_fields.specs.Fields.{whole_of}
-use Rattle.message_fields.specs.Readings.{IsReading}
+use Rattle.message_fields.specs.Readings.{IsReading, IsWholeReading}
 use Rattle.message_fields.specs.Tables.{bytes, varint}
 use Rattle.message_fields.specs.Lookups.{has, number_or, parts_of, AreWithin}
 use Rattle.message_fields.specs.Faults.{first_fault, wire_fault, wrong_kind, fault_of, said_unless}
@@ -42,7 +42,7 @@ nigori_fields = bytes 1 ∷ varint 30 ∷ []
 pub record AreSpecificsFields (input : List ℕ) (parts : List Part) (all : SpecificsFields) : Type 0 where
   pub own : IsReading specifics_fields input parts all.own
   pub sealed : IsReading sealed_fields input (parts_of 1 all.own.fields) all.sealed
-  pub preference : IsReading preference_fields input (parts_of 37702 all.own.fields) all.preference
+  pub preference : IsWholeReading input (parts_of 37702 all.own.fields) all.preference
   pub password : IsReading password_fields input (parts_of 45873 all.own.fields) all.password
   pub sealed_password : IsReading sealed_fields input (parts_of 1 all.password.fields) all.sealed_password
   pub nigori : IsReading nigori_fields input (parts_of 47745 all.own.fields) all.nigori

@@ -18,7 +18,8 @@ use std::alloc::Global;
 use sync_values::PassKind;
 use wire_fields::NoMemory;
 
-/// The messages in specifics: their own, and those of each type, with the encrypted text in each.
+/// The messages in specifics: their own, and those of each type, with the encrypted text in each. That of a preference
+/// has all its fields, and the others those that are known.
 #[derive(Debug, Drop)]
 pub struct SpecificsFields {
     pub own: Message,
@@ -39,7 +40,7 @@ impl SpecificsFields {
     {
         let own = Message::read(alloc, input, parts, &SPECIFICS_FIELDS)?;
         let sealed = own.inner(alloc, input, 1, &SEALED_FIELDS)?;
-        let preference = own.inner(alloc, input, 37702, &PREFERENCE_FIELDS)?;
+        let preference = own.inner_whole(alloc, input, 37702)?;
         let password = own.inner(alloc, input, 45873, &PASSWORD_FIELDS)?;
         let sealed_password = password.inner(alloc, input, 1, &SEALED_FIELDS)?;
         let nigori = own.inner(alloc, input, 47745, &NIGORI_FIELDS)?;

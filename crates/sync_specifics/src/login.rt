@@ -5,16 +5,17 @@ ghost use Rattle.message_fields.specs.Faults.{Answered};
 ghost use Rattle.sync_specifics.specs.Logins.{login_fault, login_of, login_bytes, SaysLogin};
 
 use crate::tables::LOGIN_FIELDS;
-use message_fields::{Message, MessageFault, Part, first_fault, write_unless_zero};
+use message_fields::{Message, MessageFault, Part, first_fault, with_extra, write_unless_zero};
 use std::alloc::Global;
 use sync_values::Password;
 use wire_fields::{FieldWriter, NoMemory, Octets};
 
-/// Reads the data of a login by itself, all of whose texts have to be there, in time linear in the bytes.
+/// Reads the data of a login by itself, all of whose texts have to be there, in time linear in the bytes. Its unknown
+/// fields are kept.
 pub fn decode_password(alloc: Global, bytes: &[u8]) -> Result<Password, MessageFault>
     ensures { Answered (SaysLogin bytes.now) result }
 {
-    let message = Message::read(alloc, bytes, &[Part::whole(bytes)], &LOGIN_FIELDS)?;
+    let message = Message::read_whole(alloc, bytes, &[Part::whole(bytes)])?;
     match login_fault(&message) {
         None => Ok(login_in(alloc, bytes, &message)?),
         Some(fault) => Err(fault),
@@ -33,7 +34,7 @@ pub fn encode_password(alloc: Global, value: &Password) -> Result<Octets, NoMemo
     writer.bytes(7, value.pass_element.as_slice())?;
     writer.bytes(8, value.secret.as_slice())?;
     write_unless_zero(&mut writer, 11, value.created.cast_unsigned())?;
-    Ok(writer.finish())
+    with_extra(alloc, writer.finish().as_slice(), value.extra.as_slice())
 }
 
 fn login_fault(message: &Message) -> Option<MessageFault>
@@ -64,5 +65,6 @@ fn login_in(alloc: Global, input: &[u8], message: &Message) -> Result<Password, 
         realm: text(2)?,
         secret: text(8)?,
         created: message.varint(11).unwrap_or(0).cast_signed(),
+        extra: message.unknown(alloc, input, &LOGIN_FIELDS)?,
     })
 }

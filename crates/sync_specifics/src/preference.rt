@@ -5,16 +5,17 @@ ghost use Rattle.message_fields.specs.Faults.{Answered};
 ghost use Rattle.sync_specifics.specs.Preferences.{preference_fault, preference_of, preference_bytes, SaysPreference};
 
 use crate::tables::PREFERENCE_FIELDS;
-use message_fields::{Message, MessageFault, Part, first_fault};
+use message_fields::{Message, MessageFault, Part, first_fault, with_extra};
 use std::alloc::Global;
 use sync_values::Preference;
 use wire_fields::{FieldWriter, NoMemory, Octets};
 
-/// Reads a preference by itself, whose two texts have to be there, in time linear in the bytes.
+/// Reads a preference by itself, whose two texts have to be there, in time linear in the bytes. Its unknown fields are
+/// kept.
 pub fn decode_preference(alloc: Global, bytes: &[u8]) -> Result<Preference, MessageFault>
     ensures { Answered (SaysPreference bytes.now) result }
 {
-    let message = Message::read(alloc, bytes, &[Part::whole(bytes)], &PREFERENCE_FIELDS)?;
+    let message = Message::read_whole(alloc, bytes, &[Part::whole(bytes)])?;
     match preference_fault(&message) {
         None => Ok(preference_in(alloc, bytes, &message)?),
         Some(fault) => Err(fault),
@@ -28,7 +29,7 @@ pub fn encode_preference(alloc: Global, value: &Preference) -> Result<Octets, No
     let mut writer = FieldWriter::new(alloc);
     writer.bytes(1, value.name.as_slice())?;
     writer.bytes(2, value.value.as_slice())?;
-    Ok(writer.finish())
+    with_extra(alloc, writer.finish().as_slice(), value.extra.as_slice())
 }
 
 // What is at fault in a preference.
@@ -55,5 +56,6 @@ pub(crate) fn preference_in(
     Ok(Preference {
         name: Octets::from_slice(alloc, message.bytes(input, 1))?,
         value: Octets::from_slice(alloc, message.bytes(input, 2))?,
+        extra: message.unknown(alloc, input, &PREFERENCE_FIELDS)?,
     })
 }

@@ -21,6 +21,7 @@ fn preference(alloc: Global) -> Result<Preference, NoMemory> {
     Ok(Preference {
         name: Octets::from_slice(alloc, b"home")?,
         value: Octets::from_slice(alloc, b"on")?,
+        extra: Octets::from_slice(alloc, b"\x18\x07")?,
     })
 }
 
@@ -33,6 +34,7 @@ fn password(alloc: Global) -> Result<Password, NoMemory> {
         realm: Octets::from_slice(alloc, b"a.example")?,
         secret: Octets::from_slice(alloc, b"hush")?,
         created: -3,
+        extra: Octets::from_slice(alloc, b"\x60\x01")?,
     })
 }
 
@@ -49,6 +51,7 @@ fn copies_a_preference(rt: HostRuntime) -> Result<(), Fail> {
     let copy = preference(rt.alloc())?.copy()?;
     assert_eq!(rt; copy.name.as_slice(), b"home".as_slice());
     assert_eq!(rt; copy.value.as_slice(), b"on".as_slice());
+    assert_eq!(rt; copy.extra.as_slice(), b"\x18\x07".as_slice());
     Ok(())
 }
 
@@ -62,6 +65,7 @@ fn copies_a_password(rt: HostRuntime) -> Result<(), Fail> {
     assert_eq!(rt; copy.realm.as_slice(), b"a.example".as_slice());
     assert_eq!(rt; copy.secret.as_slice(), b"hush".as_slice());
     assert_eq!(rt; copy.created, -3);
+    assert_eq!(rt; copy.extra.as_slice(), b"\x60\x01".as_slice());
     Ok(())
 }
 

@@ -19,6 +19,8 @@ pub enum PassKind {
 pub struct Preference {
     pub name: Octets,
     pub value: Octets,
+    /// The fields of its message that a newer client wrote and this one does not know, as their bytes.
+    pub extra: Octets,
 }
 
 /// A saved login: where it is filled in, for whom, and the secret.
@@ -32,6 +34,8 @@ pub struct Password {
     pub secret: Octets,
     /// When it was made, as a number that grows.
     pub created: i64,
+    /// The fields of its message that a newer client wrote and this one does not know, as their bytes.
+    pub extra: Octets,
 }
 
 /// The keys of a profile: the name of the one that locks them, all of them, and the passphrase's kind.
@@ -89,6 +93,7 @@ impl Preference {
         Ok(Preference {
             name: self.name.copy()?,
             value: self.value.copy()?,
+            extra: self.extra.copy()?,
         })
     }
 }
@@ -106,6 +111,7 @@ impl Password {
             realm: self.realm.copy()?,
             secret: self.secret.copy()?,
             created: self.created,
+            extra: self.extra.copy()?,
         })
     }
 }

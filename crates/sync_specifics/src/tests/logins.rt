@@ -17,6 +17,7 @@ fn login(alloc: Global, created: i64) -> Result<Password, NoMemory> {
         realm: Octets::from_slice(alloc, b"r")?,
         secret: Octets::from_slice(alloc, b"s")?,
         created,
+        extra: Octets::new(alloc),
     })
 }
 
@@ -39,6 +40,20 @@ fn a_login_is_its_texts(rt: HostRuntime) -> Result<(), Fail> {
     assert_eq!(rt; again.pass_element.as_slice(), b"p".as_slice());
     assert_eq!(rt; again.secret.as_slice(), b"s".as_slice());
     assert_eq!(rt; again.created, 0);
+    Ok(())
+}
+
+#[test]
+fn unknown_fields_are_kept(rt: HostRuntime) -> Result<(), Fail> {
+    let mut value = login(rt.alloc(), 3)?;
+    value.extra = Octets::from_slice(rt.alloc(), b"\x08\x01")?;
+    let bytes = encode_password(rt.alloc(), &value)?;
+    assert_eq!(rt;
+        bytes.as_slice().get(18..),
+        Some(b"\x58\x03\x08\x01".as_slice())
+    );
+    let again = decode_password(rt.alloc(), bytes.as_slice())?;
+    assert_eq!(rt; again.extra, value.extra);
     Ok(())
 }
 

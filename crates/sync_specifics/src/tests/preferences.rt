@@ -17,6 +17,7 @@ fn a_preference_is_its_name_and_its_value(rt: HostRuntime) -> Result<(), Fail> {
     let value = Preference {
         name: Octets::from_slice(rt.alloc(), b"a")?,
         value: Octets::from_slice(rt.alloc(), b"1")?,
+        extra: Octets::new(rt.alloc()),
     };
     let bytes = encode_preference(rt.alloc(), &value)?;
     assert_eq!(rt; bytes.as_slice(), b"\x0a\x01a\x12\x011".as_slice());
@@ -31,6 +32,7 @@ fn empty_texts_are_written(rt: HostRuntime) -> Result<(), Fail> {
     let value = Preference {
         name: Octets::new(rt.alloc()),
         value: Octets::new(rt.alloc()),
+        extra: Octets::new(rt.alloc()),
     };
     let bytes = encode_preference(rt.alloc(), &value)?;
     assert_eq!(rt; bytes.as_slice(), b"\x0a\x00\x12\x00".as_slice());
@@ -53,6 +55,31 @@ fn order_and_unknown_fields_do_not_matter_and_the_last_counts(rt: HostRuntime) -
         assert_eq!(rt; value.value.as_slice(), b"1".as_slice());
     }
     Ok(())
+}
+
+#[test]
+fn unknown_fields_are_kept(rt: HostRuntime) -> Result<(), Fail> {
+    let value = decode_preference(rt.alloc(), b"\x98\x00\x07\x0a\x01a\x12\x011")?;
+    assert_eq!(rt; value.extra.as_slice(), b"\x18\x07".as_slice());
+    let bytes = encode_preference(rt.alloc(), &value)?;
+    assert_eq!(rt; bytes.as_slice(), b"\x0a\x01a\x12\x011\x18\x07".as_slice());
+    Ok(())
+}
+
+#[test]
+fn some_extras_are_canonical(rt: HostRuntime) {
+    let rows: [(&[u8], bool); 5] = [
+        (b"", true),
+        (b"\x18\x07", true),
+        (b"\x0a", false),
+        (b"\x0a\x00", false),
+        (b"\x18\x87\x00", false),
+    ];
+    for (extra, canonical) in rows {
+        assert_eq!(rt; is_canonical_extra(Kind::Preference, extra), canonical);
+    }
+    assert!(rt; is_canonical_extra(Kind::Password, b"\x08\x01"));
+    assert!(rt; !is_canonical_extra(Kind::Password, b"\x58\x01"));
 }
 
 #[test]

@@ -16,6 +16,7 @@ fn a_preference_in_specifics(rt: HostRuntime) -> Result<(), Fail> {
     let value = Specifics::Preference(Preference {
         name: Octets::from_slice(rt.alloc(), b"a")?,
         value: Octets::from_slice(rt.alloc(), b"1")?,
+        extra: Octets::new(rt.alloc()),
     });
     let bytes = encode_specifics(rt.alloc(), &value)?;
     assert_eq!(rt;
@@ -28,6 +29,29 @@ fn a_preference_in_specifics(rt: HostRuntime) -> Result<(), Fail> {
     };
     assert_eq!(rt; preference.name.as_slice(), b"a".as_slice());
     assert_eq!(rt; preference.value.as_slice(), b"1".as_slice());
+    Ok(())
+}
+
+#[test]
+fn a_preference_in_specifics_keeps_its_unknown_fields(rt: HostRuntime) -> Result<(), Fail> {
+    let value = Specifics::Preference(Preference {
+        name: Octets::from_slice(rt.alloc(), b"a")?,
+        value: Octets::from_slice(rt.alloc(), b"1")?,
+        extra: Octets::from_slice(rt.alloc(), b"\x18\x07")?,
+    });
+    let wanted = b"\xb2\xb4\x12\x08\x0a\x01a\x12\x011\x18\x07";
+    let bytes = encode_specifics(rt.alloc(), &value)?;
+    assert_eq!(rt; bytes.as_slice(), wanted.as_slice());
+    let rows: [&[u8]; 2] = [wanted, b"\xb2\xb4\x12\x08\x18\x07\x0a\x01a\x12\x011"];
+    for bytes in rows {
+        let again = decode_specifics(rt.alloc(), bytes)?;
+        let Some(Specifics::Preference(preference)) = &again else {
+            return Err("a preference was written".into());
+        };
+        assert_eq!(rt; preference.name.as_slice(), b"a".as_slice());
+        assert_eq!(rt; preference.value.as_slice(), b"1".as_slice());
+        assert_eq!(rt; preference.extra.as_slice(), b"\x18\x07".as_slice());
+    }
     Ok(())
 }
 

@@ -2,7 +2,7 @@ use Rattle.sync_specifics.proofs.TextsRead.{preferences_are_read}
 use Rattle.sync_specifics.proofs.LoginsRead.{logins_are_read}
 use Rattle.sync_specifics.proofs.KeysRead.{keys_are_read}
 use Rattle.sync_specifics.proofs.BagsRead.{bags_are_read}
-use Rattle.sync_specifics.proofs.SpecificsRead.{specifics_are_read}
+use Rattle.sync_specifics.proofs.SpecificsInside.{specifics_are_read}
 use Rattle.sync_specifics.proofs.laws.written_values_are_read.Goals as goal
 
 pub returns-clause-preferences : goal.returns-clause-preferences

@@ -1,8 +1,14 @@
 -- What the bytes of specifics say that stand in some input.
-use Rattle.std.proofs.Common.{◌≡◌, ℕ, ◌^◌, ◌<◌, List, [], ◌∷◌, ◌++◌, Some, None, length, refl, ap, subst, arith}
+use Rattle.std.proofs.Common.{◌≡◌, ℕ, ◌^◌, ◌<◌, true, if◌then◌else◌, List, [], ◌∷◌, ◌++◌, Some, None, Ok, length, refl, sym, ap, subst, ◌∙◌, arith}
 use Rattle.wire_format.specs.Spellings.{bytes_field}
 use Rattle.client_tags.specs.declared.Kind.TheVariants as kinds
-use Rattle.message_fields.proofs.WrittenMessages.{Written, a_number, some_bytes, joined_are, StandsAt, contents_stand, message_of, content_begin, content_end, written_is_read, nothing_is_read}
+use Rattle.message_fields.specs.declared.field.Known.{Known}
+use Rattle.message_fields.specs.declared.message.Message.{Message}
+use Rattle.message_fields.specs.Faults.{first_fault, wire_fault, wrong_kind, said_unless}
+use Rattle.message_fields.specs.Unknown.{IsCanonicalExtra}
+use Rattle.message_fields.proofs.ExtraFields.{canonical_is_kept}
+use Rattle.message_fields.proofs.WrittenExtras.{extra_is_read, nothing_whole}
+use Rattle.message_fields.proofs.WrittenMessages.{Written, a_number, some_bytes, joined_are, StandsAt, whole_stands, contents_stand, message_of, content_begin, content_end, written_is_read, nothing_is_read}
 use Rattle.sync_specifics.specs.declared.fields.SpecificsFields.{SpecificsFields}
 use Rattle.sync_values.specs.declared.value.PassKind.{PassKind}
 use Rattle.sync_values.specs.declared.value.PassKind.TheVariants.{Implicit, Keystore, Frozen, Custom, Vault}
@@ -12,10 +18,23 @@ use Rattle.sync_specifics.specs.declared.specifics.Specifics.{Specifics}
 use Rattle.sync_specifics.specs.declared.specifics.Specifics.TheVariants.{EmptyOf, Preference, SealedPreference, Password, Nigori}
 use Rattle.sync_values.specs.PassKinds.{pass_kind_number}
 use Rattle.sync_specifics.specs.SealedTexts.{sealed_fields, sealed_of, sealed_bytes}
-use Rattle.sync_specifics.specs.Preferences.{preference_fields, preference_bytes}
-use Rattle.sync_specifics.specs.Specifics.{specifics_fields, password_fields, nigori_fields, nigori_bytes, AreSpecificsFields, specifics_fault, specifics_of, specifics_bytes}
-use Rattle.sync_messages.proofs.Below.{nothing, kind_small}
-use Rattle.sync_specifics.proofs.TextsRead.{preference_texts, preference_read, preference_is, sealed_texts, sealed_read, sealed_is}
+use Rattle.sync_specifics.specs.Preferences.{preference_fields, preference_fault, preference_of, preference_bytes}
+use Rattle.sync_specifics.specs.Specifics.{specifics_fields, password_fields, nigori_fields, nigori_bytes, AreSpecificsFields, is_plain, specifics_fault, specifics_of, specifics_bytes}
+use Rattle.sync_specifics.specs.Extras.{HasCanonicalExtra}
+use Rattle.sync_specifics.specs.Laws.{SpecificsAreRead}
+use Rattle.sync_specifics.proofs.TextsRead.{preference_message, preference_read, preference_is, preference_has_no_fault, preference_is_plain, sealed_texts, sealed_read, sealed_is}
+
+-- nothing of a message
+abbrev pub nothing : List Known → Message
+nothing known = message_of known 0 0 []
+
+-- the number of a passphrase's kind fits a varint
+kind_small : (kind : PassKind) → pass_kind_number kind < 2 ^ 64
+kind_small Implicit = omega arith
+kind_small Keystore = omega arith
+kind_small Frozen = omega arith
+kind_small Custom = omega arith
+kind_small Vault = omega arith
 
 -- specifics that are read between two places of the input, in which nothing is at fault, and which say this
 pub record IsInside (input : List ℕ) (at until : ℕ) (value : Specifics) : Type 0 where
@@ -46,7 +65,7 @@ empty_preference input at until small whole =
       are_fields = record {
         own = written_is_read specifics_fields input at until fields small ((omega arith, omega arith), tt) stands;
         sealed = nothing_is_read sealed_fields input;
-        preference = written_is_read preference_fields input begin end [] small tt inner.0;
+        preference = extra_is_read input begin end [] [] small tt tt inner.0;
         password = nothing_is_read password_fields input;
         sealed_password = nothing_is_read sealed_fields input;
         nigori = nothing_is_read nigori_fields input;
@@ -78,7 +97,7 @@ empty_password input at until small whole =
       are_fields = record {
         own = written_is_read specifics_fields input at until fields small ((omega arith, omega arith), tt) stands;
         sealed = nothing_is_read sealed_fields input;
-        preference = nothing_is_read preference_fields input;
+        preference = nothing_whole input;
         password = written_is_read password_fields input begin end [] small tt inner.0;
         sealed_password = nothing_is_read sealed_fields input;
         nigori = nothing_is_read nigori_fields input;
@@ -110,7 +129,7 @@ empty_nigori input at until small whole =
       are_fields = record {
         own = written_is_read specifics_fields input at until fields small ((omega arith, omega arith), tt) stands;
         sealed = nothing_is_read sealed_fields input;
-        preference = nothing_is_read preference_fields input;
+        preference = nothing_whole input;
         password = nothing_is_read password_fields input;
         sealed_password = nothing_is_read sealed_fields input;
         nigori = written_is_read nigori_fields input begin end [] small tt inner.0;
@@ -120,37 +139,60 @@ empty_nigori input at until small whole =
       is_said = refl;
     }
 
+-- the messages in specifics of a preference
+abbrev plain_in : ℕ → ℕ → List ℕ → Message → SpecificsFields
+plain_in at until content preference = record {
+  own = message_of specifics_fields at until (some_bytes 37702 content ∷ []);
+  sealed = nothing sealed_fields;
+  preference = preference;
+  password = nothing password_fields;
+  sealed_password = nothing sealed_fields;
+  nigori = nothing nigori_fields;
+  sealed_keys = nothing sealed_fields;
+}
+
+-- nothing is at fault in them
+plain_right : (at until : ℕ) (content : List ℕ) (preference : Message) → wire_fault preference ≡ None → is_plain preference ≡ true →
+    preference_fault preference ≡ None → None ≡ specifics_fault (plain_in at until content preference)
+plain_right at until content preference whole plain right =
+    sym (ap (λ b. first_fault (None ∷ (if b then preference_fault preference
+    else first_fault (wire_fault preference ∷ wrong_kind preference_fields preference ∷ [])) ∷ wire_fault preference ∷ None ∷ None ∷ None ∷ None ∷ [])) plain
+    ∙ ap (λ fault. first_fault (None ∷ fault ∷ wire_fault preference ∷ None ∷ None ∷ None ∷ None ∷ [])) right
+    ∙ ap (λ fault. first_fault (None ∷ None ∷ fault ∷ None ∷ None ∷ None ∷ None ∷ [])) whole)
+
+-- they say the preference
+plain_said : (input : List ℕ) (at until : ℕ) (content : List ℕ) (preference : Message) → is_plain preference ≡ true →
+    Some (Preference (preference_of input preference)) ≡ specifics_of input (plain_in at until content preference)
+plain_said input at until content preference plain =
+    sym (ap (λ b. Some (if b then Preference (preference_of input preference) else EmptyOf kinds.Preference)) plain)
+
 -- a preference
-plain_preference : (input : List ℕ) (preference : APreference) (at until : ℕ) → length input < 2 ^ 64 →
-    StandsAt input (bytes_field 37702 (preference_bytes preference)) at until →
+plain_preference : (input : List ℕ) (preference : APreference) (at until : ℕ) → IsCanonicalExtra preference_fields preference.extra →
+    length input < 2 ^ 64 → StandsAt input (bytes_field 37702 (preference_bytes preference)) at until →
     IsInside input at until (Preference preference)
-plain_preference input preference at until small whole =
+plain_preference input preference at until canonical small whole =
+    let kept = canonical_is_kept preference_fields preference.extra canonical in
     let fields : List Written = some_bytes 37702 (preference_bytes preference) ∷ [] in
     let stands = subst (λ bytes. StandsAt input bytes at until) (joined_are fields) whole in
     let inner = contents_stand input at until fields stands in
     let begin : ℕ = content_begin at 37702 (preference_bytes preference) in
     let end : ℕ = content_end at 37702 (preference_bytes preference) in
+    let message : Message = preference_message begin end preference kept.fields in
     record {
-      all = record {
-        own = message_of specifics_fields at until fields;
-        sealed = nothing sealed_fields;
-        preference = message_of preference_fields begin end (preference_texts preference);
-        password = nothing password_fields;
-        sealed_password = nothing sealed_fields;
-        nigori = nothing nigori_fields;
-        sealed_keys = nothing sealed_fields;
-      };
+      all = plain_in at until (preference_bytes preference) message;
       are_fields = record {
         own = written_is_read specifics_fields input at until fields small ((omega arith, omega arith), tt) stands;
         sealed = nothing_is_read sealed_fields input;
-        preference = preference_read input preference begin end small inner.0;
+        preference = preference_read input preference kept begin end small inner.0;
         password = nothing_is_read password_fields input;
         sealed_password = nothing_is_read sealed_fields input;
         nigori = nothing_is_read nigori_fields input;
         sealed_keys = nothing_is_read sealed_fields input;
       };
-      no_fault = refl;
-      is_said = ap (λ said. Some (Preference said)) (preference_is input preference begin end inner.0);
+      no_fault = plain_right at until (preference_bytes preference) message refl (preference_is_plain preference kept begin end)
+          (preference_has_no_fault preference kept begin end);
+      is_said = ap (λ said. Some (Preference said)) (preference_is input preference kept begin end inner.0)
+          ∙ plain_said input at until (preference_bytes preference) message (preference_is_plain preference kept begin end);
     }
 
 -- a preference that is encrypted
@@ -178,7 +220,7 @@ sealed_preference input sealed at until small whole =
         own = written_is_read specifics_fields input at until fields small
             ((omega arith, omega arith), ((omega arith, omega arith), tt)) stands;
         sealed = sealed_read input sealed begin end small inner.0;
-        preference = written_is_read preference_fields input empty (content_end end 37702 []) [] small tt inner.1.0;
+        preference = extra_is_read input empty (content_end end 37702 []) [] [] small tt tt inner.1.0;
         password = nothing_is_read password_fields input;
         sealed_password = nothing_is_read sealed_fields input;
         nigori = nothing_is_read nigori_fields input;
@@ -217,7 +259,7 @@ sealed_password input sealed at until small whole =
       are_fields = record {
         own = written_is_read specifics_fields input at until fields small ((omega arith, omega arith), tt) stands;
         sealed = nothing_is_read sealed_fields input;
-        preference = nothing_is_read preference_fields input;
+        preference = nothing_whole input;
         password = written_is_read password_fields input begin end texts small ((omega arith, omega arith), tt) held;
         sealed_password = sealed_read input sealed first last small inner.0;
         nigori = nothing_is_read nigori_fields input;
@@ -279,7 +321,7 @@ sealed_nigori input bag kind at until small whole =
       are_fields = record {
         own = written_is_read specifics_fields input at until fields small ((omega arith, omega arith), tt) stands;
         sealed = nothing_is_read sealed_fields input;
-        preference = nothing_is_read preference_fields input;
+        preference = nothing_whole input;
         password = nothing_is_read password_fields input;
         sealed_password = nothing_is_read sealed_fields input;
         nigori = written_is_read nigori_fields input begin end texts small
@@ -290,12 +332,23 @@ sealed_nigori input bag kind at until small whole =
       is_said = nigori_said input at until bag kind begin end first last content (sealed_is input bag first last inner.0);
     }
 
-pub specifics_inside : (input : List ℕ) (value : Specifics) (at until : ℕ) → length input < 2 ^ 64 →
+pub specifics_inside : (input : List ℕ) (value : Specifics) (at until : ℕ) → HasCanonicalExtra value → length input < 2 ^ 64 →
     StandsAt input (specifics_bytes value) at until → IsInside input at until value
-specifics_inside input (EmptyOf kinds.Preference) at until small stands = empty_preference input at until small stands
-specifics_inside input (EmptyOf kinds.Password) at until small stands = empty_password input at until small stands
-specifics_inside input (EmptyOf kinds.Nigori) at until small stands = empty_nigori input at until small stands
-specifics_inside input (Preference preference) at until small stands = plain_preference input preference at until small stands
-specifics_inside input (SealedPreference sealed) at until small stands = sealed_preference input sealed at until small stands
-specifics_inside input (Password sealed) at until small stands = sealed_password input sealed at until small stands
-specifics_inside input (Nigori nigori) at until small stands = sealed_nigori input nigori.bag nigori.pass_kind at until small stands
+specifics_inside input (EmptyOf kinds.Preference) at until canonical small stands = empty_preference input at until small stands
+specifics_inside input (EmptyOf kinds.Password) at until canonical small stands = empty_password input at until small stands
+specifics_inside input (EmptyOf kinds.Nigori) at until canonical small stands = empty_nigori input at until small stands
+specifics_inside input (Preference preference) at until canonical small stands = plain_preference input preference at until canonical small stands
+specifics_inside input (SealedPreference sealed) at until canonical small stands = sealed_preference input sealed at until small stands
+specifics_inside input (Password sealed) at until canonical small stands = sealed_password input sealed at until small stands
+specifics_inside input (Nigori nigori) at until canonical small stands = sealed_nigori input nigori.bag nigori.pass_kind at until small stands
+
+-- the bytes of specifics by themselves
+pub specifics_are_read : SpecificsAreRead
+specifics_are_read value canonical small =
+    let input : List ℕ = specifics_bytes value in
+    let inside = specifics_inside input value 0 (length input) canonical small (whole_stands input) in
+    record {
+      all = inside.all;
+      are_fields = inside.are_fields;
+      is_said = ap Ok inside.is_said ∙ ap (λ fault. said_unless fault (specifics_of input inside.all)) inside.no_fault;
+    }
