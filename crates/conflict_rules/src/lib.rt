@@ -7,6 +7,7 @@ mod same;
 mod table;
 
 pub use rules::{NigoriRules, Passwords, Preferences, TypeRules};
+pub use same::same_values;
 pub use sync_model::{Choice, Decision, Resolution, Row};
 pub use table::resolve;
 

@@ -1,4 +1,4 @@
-//! When two values are one: all their fields are.
+//! When two values are one: all their fields are, those that only a newer client knows too.
 ghost use Rattle.std.specs.Prelude.{◌≡◌};
 ghost use Rattle.std.specs.Str.{bytes_eq};
 ghost use Rattle.std.specs.Ordering.{int_eq};
@@ -17,7 +17,7 @@ fn same_text(a: &Octets, b: &Octets) -> bool
 fn same_preferences(a: &Preference, b: &Preference) -> bool
     ensures { result ≡ same_preference a.now b.now }
 {
-    same_text(&a.name, &b.name) && same_text(&a.value, &b.value)
+    same_text(&a.name, &b.name) && same_text(&a.value, &b.value) && same_text(&a.extra, &b.extra)
 }
 
 fn same_logins(a: &Password, b: &Password) -> bool
@@ -30,6 +30,7 @@ fn same_logins(a: &Password, b: &Password) -> bool
         && same_text(&a.realm, &b.realm)
         && same_text(&a.secret, &b.secret)
         && a.created == b.created
+        && same_text(&a.extra, &b.extra)
 }
 
 fn same_pass_kinds(a: PassKind, b: PassKind) -> bool
@@ -59,9 +60,9 @@ fn same_nigoris(a: &NigoriValue, b: &NigoriValue) -> bool
         && same_pass_kinds(a.pass_kind, b.pass_kind)
 }
 
-/// All fields of two values are equal.
+/// All fields of two values are equal, those that only a newer client knows too. It takes time in their length.
 #[tactic(auto, unfolding(sync_model::specs::Values::same_value))]
-pub(crate) fn same_values(a: &Value, b: &Value) -> bool
+pub fn same_values(a: &Value, b: &Value) -> bool
     ensures { result ≡ same_value a.now b.now }
 {
     match (a, b) {

@@ -12,11 +12,13 @@ use wire_fields::NoMemory;
 
 // The first row that fits.
 #[tactic(auto, unfolding(sync_model::specs::Conflicts::row_of))]
-fn fitting_row(base: &Value, local: &Value, remote: &Value) -> Row
-    ensures { result ≡ row_of base.now local.now remote.now }
+fn fitting_row(echo: bool, base: &Value, local: &Value, remote: &Value) -> Row
+    ensures { result ≡ row_of echo base.now local.now remote.now }
 {
     if same_values(local, remote) {
         Row::C1
+    } else if echo {
+        Row::C0
     } else if is_absent(local) && !is_absent(remote) {
         Row::C2
     } else if same_values(local, base) {
@@ -56,27 +58,29 @@ fn choose<R: TypeRules>(
     match row {
         Row::C1 => Ok(Choice::Same),
         Row::C2 | Row::C3 => Ok(Choice::Remote),
-        Row::C4 | Row::C5 => Ok(Choice::Local),
+        Row::C0 | Row::C4 | Row::C5 => Ok(Choice::Local),
         Row::C6 => Ok(choice_by(rules.decide(local, remote)?)),
     }
 }
 
 /// Settles an own value that the server lacks, where another value of its key comes: by the first row of the
-/// conflict table that fits what was known before, the own value and the server's.
+/// conflict table that fits what was known before, the own value and the server's. The caller tells whether the
+/// server's is an earlier own value that this client offered.
 ///
 /// Memory is wanting only where the rule wants it to decide, which it does at row C6 alone.
 pub fn resolve<R: TypeRules>(
     rules: &R,
+    echo: bool,
     base: &Value,
     local: &Value,
     remote: &Value,
 ) -> Result<Resolution, NoMemory>
     ensures resolved { IfOk result (λ resolution. resolution
-        ≡ resolved (R.decided rules.now) base.now local.now remote.now) }
+        ≡ resolved (R.decided rules.now) echo base.now local.now remote.now) }
     ensures refused { OnErr result (IsTrue (R.wants_memory rules.now)) }
-    ensures asked { OnErr result (row_of base.now local.now remote.now ≡ C6) }
+    ensures asked { OnErr result (row_of echo base.now local.now remote.now ≡ C6) }
 {
-    let row = fitting_row(base, local, remote);
+    let row = fitting_row(echo, base, local, remote);
     let choice = choose(rules, row, local, remote)?;
     Ok(Resolution { row, choice })
 }

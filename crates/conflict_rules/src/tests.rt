@@ -9,9 +9,15 @@ use sync_values::{NigoriValue, PassKind, Password, Preference, Value};
 use wire_fields::{List, NoMemory, Octets};
 
 fn preference(alloc: Global, value: Octets) -> Value {
+    known_by_newer(alloc, value, Octets::new(alloc))
+}
+
+// A preference with fields that only a newer client knows.
+fn known_by_newer(alloc: Global, value: Octets, extra: Octets) -> Value {
     Value::Preference(Preference {
         name: Octets::new(alloc),
         value,
+        extra,
     })
 }
 
@@ -24,6 +30,7 @@ fn login(alloc: Global, secret: Octets, created: i64) -> Value {
         realm: Octets::new(alloc),
         secret,
         created,
+        extra: Octets::new(alloc),
     })
 }
 
@@ -52,14 +59,25 @@ impl TypeRules for OwnForBoth {
     }
 }
 
-// The row that fits is this one, and does what the word says.
+// The row that fits is this one, and does what the word says, where the server's value was not offered.
 fn settles<R: TypeRules>(
     rules: &R,
     values: (&Value, &Value, &Value),
     row: Row,
     done: &str,
 ) -> bool {
-    match resolve(rules, values.0, values.1, values.2) {
+    settles_echo(rules, false, values, row, done)
+}
+
+// The same where the server's value was offered, if it was.
+fn settles_echo<R: TypeRules>(
+    rules: &R,
+    echo: bool,
+    values: (&Value, &Value, &Value),
+    row: Row,
+    done: &str,
+) -> bool {
+    match resolve(rules, echo, values.0, values.1, values.2) {
         Ok(resolution) => resolution.row == row && word(resolution.choice) == done,
         Err(NoMemory) => false,
     }
@@ -93,6 +111,30 @@ fn settles_values_by_the_first_row_that_fits(rt: HostRuntime) -> Result<(), Fail
     assert!(rt; settles(&rules, (&none, &two, &none), Row::C4, "local"));
     assert!(rt; settles(&rules, (&one, &two, &none), Row::C5, "local"));
     assert!(rt; settles(&rules, (&one, &two, &nine), Row::C6, "remote"));
+    Ok(())
+}
+
+#[test]
+fn keeps_the_own_value_where_an_earlier_one_comes_back(rt: HostRuntime) -> Result<(), Fail> {
+    let rules = Preferences;
+    let text = Octets::from_slice(rt.alloc(), b"2")?;
+    let none = Value::Absent;
+    let one = preference(rt.alloc(), Octets::new(rt.alloc()));
+    let two = preference(rt.alloc(), text);
+    assert!(rt; settles_echo(&rules, true, (&none, &two, &one), Row::C0, "local"));
+    assert!(rt; settles_echo(&rules, true, (&none, &none, &one), Row::C0, "local"));
+    assert!(rt; settles_echo(&rules, true, (&none, &two, &two), Row::C1, "same"));
+    Ok(())
+}
+
+#[test]
+fn compares_what_only_a_newer_client_knows(rt: HostRuntime) -> Result<(), Fail> {
+    let extra = Octets::from_slice(rt.alloc(), b"\x18\x07")?;
+    let none = Value::Absent;
+    let own = preference(rt.alloc(), Octets::new(rt.alloc()));
+    let newer = known_by_newer(rt.alloc(), Octets::new(rt.alloc()), extra);
+    assert!(rt; settles(&Preferences, (&none, &own, &newer), Row::C6, "remote"));
+    assert!(rt; settles(&Preferences, (&newer, &own, &newer), Row::C4, "local"));
     Ok(())
 }
 

@@ -1,3 +1,4 @@
 pub mod Tracked
 pub mod Acked
 pub mod Trackers
+pub mod Offers

@@ -10,7 +10,7 @@ use wire_fields::Octets;
 const HASH: TagHash = TagHash { bytes: [7; 20] };
 
 fn login(alloc: Global, created: i64) -> Value
-    ensures { result ≡ login_value (record { origin = []; user_element = []; user_value = []; pass_element = []; realm = []; secret = []; created = created }) }
+    ensures { result ≡ login_value (record { origin = []; user_element = []; user_value = []; pass_element = []; realm = []; secret = []; created = created; extra = [] }) }
 {
     Value::Password(Password {
         origin: Octets::new(alloc),
@@ -20,6 +20,7 @@ fn login(alloc: Global, created: i64) -> Value
         realm: Octets::new(alloc),
         secret: Octets::new(alloc),
         created,
+        extra: Octets::new(alloc),
     })
 }
 
@@ -85,6 +86,7 @@ fn a_new_key_has_nothing(rt: HostRuntime) {
     let tracker = Tracker::fresh(rt.alloc(), HASH);
     assert_eq!(rt; tracker.hash(), HASH);
     assert_eq!(rt; tracker.sequence(), 0);
+    assert_eq!(rt; tracker.acked(), 0);
     assert_eq!(rt; state(&tracker), (0, 0, 0, None));
     assert!(rt; tracker.lock().is_none());
 }
@@ -104,6 +106,7 @@ fn an_edit_is_sent_and_acknowledged(rt: HostRuntime) {
     let again = tracker.acknowledge(ack(alloc, 5, login(alloc, 1), 1), login(alloc, 1));
     assert_eq!(rt; again, Acked::Old { known: 5 });
     assert!(rt; tracker.sequence() == 3);
+    assert!(rt; tracker.acked() == 1);
     let second = tracker.acknowledge(ack(alloc, 6, login(alloc, 2), 3), login(alloc, 2));
     assert_eq!(rt; second, Acked::Applied);
     assert_eq!(rt; state(&tracker), (6, 2, 2, None));
@@ -137,4 +140,59 @@ fn a_value_under_another_key_is_sealed_anew(rt: HostRuntime) {
     assert!(rt; tracker.lock().is_some());
     assert!(rt; !tracker.needs_seal(Some(&name)));
     assert!(rt; tracker.copy().is_ok());
+}
+
+// Keeps that the own value was offered, and tells whether that was done.
+#[tactic(auto, unfolding(sync_model::specs::KeyStates::noted))]
+fn noted(tracker: &mut Tracker) -> bool
+    ensures known { tracker.new.state.known ≡ tracker.old.state.known }
+    ensures due { tracker.new.state.due ≡ tracker.old.state.due }
+    ensures last { tracker.new.state.last_edit ≡ tracker.old.state.last_edit }
+{
+    match tracker.note_offered() {
+        Ok(()) => true,
+        Err(_) => false,
+    }
+}
+
+// How many values are kept as offered, and the least number.
+fn offers_kept(tracker: &Tracker) -> (usize, u64) {
+    let pairs = tracker.offered();
+    match pairs.first() {
+        Some(pair) => (pairs.len(), pair.number),
+        None => (0, 0),
+    }
+}
+
+#[test]
+fn an_offered_value_comes_back(rt: HostRuntime) {
+    let alloc = rt.alloc();
+    let one = login(alloc, 1);
+    let two = login(alloc, 2);
+    let mut tracker = Tracker::fresh(alloc, HASH);
+    tracker.local_change(login(alloc, 1), 1);
+    assert!(rt; noted(&mut tracker));
+    assert!(rt; !tracker.is_echo(&one));
+    tracker.local_change(login(alloc, 2), 2);
+    assert!(rt; noted(&mut tracker));
+    assert!(rt; noted(&mut tracker));
+    assert_eq!(rt; offers_kept(&tracker), (2, 1));
+    assert!(rt; tracker.is_echo(&one));
+    assert!(rt; !tracker.is_echo(&two));
+    tracker.keep_local(update(alloc, 1, login(alloc, 1)));
+    assert_eq!(rt; offers_kept(&tracker), (0, 0));
+    assert!(rt; !tracker.is_echo(&one));
+}
+
+#[test]
+fn eight_offered_values_are_kept(rt: HostRuntime) {
+    let alloc = rt.alloc();
+    let mut tracker = Tracker::fresh(alloc, HASH);
+    for number in 1..10 {
+        if number > tracker.sequence() {
+            tracker.local_change(login(alloc, 5), number);
+        }
+        assert!(rt; noted(&mut tracker));
+    }
+    assert_eq!(rt; offers_kept(&tracker), (8, 2));
 }

@@ -1,19 +1,23 @@
 //! The tracker of one key.
-ghost use Rattle.std.specs.Prelude.{◌≡◌, ◌<◌, ◌≤◌, IsTrue, is_some, IfSome, IfNone, IfOk};
+ghost use Rattle.std.specs.Prelude.{◌≡◌, ◌<◌, ◌≤◌, IsTrue, is_some, IfSome, IfNone, IfOk, OnOk, OnErr};
 ghost use Rattle.std.specs.Option.{option_copied};
-ghost use Rattle.sync_model.specs.KeyStates.{new_state, edited, accepted, rebased, acknowledged, is_locked_by, needs_seal};
+ghost use Rattle.sync_model.specs.KeyStates.{new_state, edited, noted, is_echo, accepted, rebased, acknowledged, is_locked_by, needs_seal};
 ghost use Rattle.sync_model.specs.Offers.{offer_for};
-ghost use Rattle.entity_tracker.specs.Acked.{acked_as};
+ghost use Rattle.entity_tracker.specs.Acked.{acked_as, acked_after};
+ghost use Rattle.entity_tracker.specs.Offers.{IsOfferedBy};
+ghost use Rattle.entity_tracker.specs.Trackers.{due_above};
 
+use crate::offered::{add_offered, copied_offered, is_earlier_offer, is_offered};
 use client_tags::TagHash;
 use std::alloc::Global;
 use std::marker::Model;
-use sync_model::{Ack, Offer, Update};
+use sync_model::{Ack, Offer, Offered, Update};
 use sync_values::Value;
 use wire_fields::{NoMemory, Octets};
 
 /// What a client knows of one key. Its edits are counted: what the server lacks are those above the last one
-/// that was acknowledged.
+/// that was acknowledged. It keeps which of its values were offered under the version that it knows, so that it
+/// knows them again where they come back.
 #[derive(Debug, Drop)]
 pub struct Tracker {
     alloc: Global,
@@ -24,6 +28,7 @@ pub struct Tracker {
     sequence: u64,
     acked: u64,
     lock: Option<Octets>,
+    offered: Vec<Offered>,
 }
 
 impl Model for Tracker {
@@ -50,7 +55,7 @@ pub enum Acked {
 impl Tracker {
     /// A key of which nothing is known.
     pub fn fresh(alloc: Global, hash: TagHash) -> Tracker
-        ensures { result ≡ record { hash = hash.bytes; state = new_state } }
+        ensures { result ≡ record { hash = hash.bytes; state = new_state; acked = 0 } }
     {
         Tracker {
             alloc,
@@ -61,6 +66,7 @@ impl Tracker {
             sequence: 0,
             acked: 0,
             lock: None,
+            offered: Vec::new(alloc),
         }
     }
 
@@ -97,6 +103,23 @@ impl Tracker {
         ensures { result ≡ self.now.state.last_edit }
     {
         self.sequence
+    }
+
+    /// The number of the last edit that was acknowledged or settled, 0 for none.
+    pub fn acked(&self) -> u64
+        ensures acked { result ≡ self.now.acked }
+        ensures due { self.now.state.due ≡ due_above result self.now.state.last_edit }
+        ensures made { result ≤ self.now.state.last_edit }
+    {
+        self.acked
+    }
+
+    /// What was offered since the known version became known, by ascending number.
+    pub fn offered(&self) -> &[Offered]
+        ensures offered { result.now ≡ self.now.state.offered }
+        ensures of_edits { IsOfferedBy self.now.state.last_edit result.now }
+    {
+        &self.offered
     }
 
     /// The name of the key that seals what the server has.
@@ -136,17 +159,43 @@ impl Tracker {
         self.sequence = number;
     }
 
+    /// Keeps that the own value was offered by the last edit. Where eight values are kept, that of the least number
+    /// goes. It takes time in the value's length.
+    #[tactic(auto, unfolding(sync_model::specs::KeyStates::noted))]
+    pub fn note_offered(&mut self) -> Result<(), NoMemory>
+        ensures ok { OnOk result (self.new
+            ≡ record self.old { state = noted self.old.state self.old.state.last_edit self.old.state.own }) }
+        ensures err { OnErr result (self.new ≡ self.old) }
+    {
+        if is_offered(&self.offered, self.sequence) {
+            return Ok(());
+        }
+        let value = self.own.copy()?;
+        let number = self.sequence;
+        add_offered(&mut self.offered, Offered { number, value })
+    }
+
+    /// A value that comes from the server is one that was offered by an edit before the due one.
+    #[tactic(auto, unfolding(sync_model::specs::KeyStates::is_echo))]
+    pub fn is_echo(&self, remote: &Value) -> bool
+        ensures { result ≡ is_echo self.now.state remote.now }
+    {
+        self.is_due() && is_earlier_offer(&self.offered, self.sequence, remote)
+    }
+
     /// Takes an update as what is known and as the own value. Nothing is due then.
     pub fn accept_remote(&mut self, remote: Update, own: Value)
         requires newer { self.old.state.known < remote.version }
         requires own { own ≡ remote.value }
-        ensures { self.new ≡ record self.old { state = accepted self.old.state remote } }
+        ensures { self.new
+            ≡ record self.old { state = accepted self.old.state remote; acked = self.old.state.last_edit } }
     {
         self.known = remote.version;
         self.base = remote.value;
         self.lock = remote.lock;
         self.own = own;
         self.acked = self.sequence;
+        self.offered = Vec::new(self.alloc);
     }
 
     /// Takes an update as what is known, and keeps the own value, which stays due.
@@ -158,6 +207,7 @@ impl Tracker {
         self.known = update.version;
         self.base = update.value;
         self.lock = update.lock;
+        self.offered = Vec::new(self.alloc);
     }
 
     /// Takes an update as what is known, and this value, which was merged of both, as the own one. It is due.
@@ -175,7 +225,8 @@ impl Tracker {
     pub fn acknowledge(&mut self, ack: Ack, own: Value) -> Acked
         requires own { own ≡ ack.value }
         requires made { ack.number ≤ self.old.state.last_edit }
-        ensures state { self.new ≡ record self.old { state = acknowledged self.old.state ack } }
+        ensures state { self.new
+            ≡ record self.old { state = acknowledged self.old.state ack; acked = acked_after self.old ack } }
         ensures answer { result ≡ acked_as self.old.state ack }
     {
         if ack.version <= self.known {
@@ -223,6 +274,7 @@ impl Tracker {
             sequence: self.sequence,
             acked: self.acked,
             lock: copied(&self.lock)?,
+            offered: copied_offered(self.alloc, &self.offered)?,
         })
     }
 

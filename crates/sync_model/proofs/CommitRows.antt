@@ -10,8 +10,8 @@ use Rattle.sync_model.specs.Settings.{names, with_keys}
 use Rattle.sync_model.specs.History.{answer_to, committed, answers_to}
 use Rattle.sync_model.specs.Servers.{wanted_writes, reply_to, history_served}
 use Rattle.sync_model.specs.Conflicts.{row_of}
-use Rattle.sync_model.specs.KeyStates.{updated, fate_of_update, acknowledged, ended}
-use Rattle.sync_model.specs.Sides.{after_update, after_updates, after_ack, after_acks, update_notes, notes_of, after_task, task_notes}
+use Rattle.sync_model.specs.KeyStates.{noted, is_echo, updated, fate_of_update, acknowledged, ended}
+use Rattle.sync_model.specs.Sides.{after_offers, after_update, after_updates, after_ack, after_acks, update_notes, notes_of, after_task, task_notes}
 use Rattle.sync_model.specs.Offers.{with_all_due, with_reseals}
 use Rattle.sync_model.specs.Clients.{bag_with}
 use Rattle.sync_model.specs.Sending.{sealed, drawn_for, gather_effect, ask_effect, offer_effect, lose_effect}
@@ -19,11 +19,11 @@ use Rattle.sync_model.specs.Receiving.{acks_of, updates_in, answer_effect, post_
 use Rattle.sync_model.specs.Changes.{edit_effect, change_effect, cut_effect, crash_effect, set_pass_effect, give_pass_effect}
 use Rattle.sync_model.specs.Worlds.{outcome_at, affected, STORE_BIRTHDAY, stepped, run}
 use Rattle.sync_model.specs.Fates.{fate_of, edits_made}
-use Rattle.sync_model.specs.Report.{events_text, server_text, key_text, nigori_text, value_text, lock_text, entity_line, entity_lines, client_text, side_text, value_line_text, row_word, fate_text, fate_line, client_lines, clients_lines, totals_text, report}
+use Rattle.sync_model.specs.Report.{events_text, server_text, key_text, nigori_text, extra_text, value_text, lock_text, entity_line, entity_lines, client_text, side_text, value_line_text, row_word, fate_text, fate_line, client_lines, clients_lines, totals_text, report}
 use Rattle.std.specs.Prelude.{zero, suc, length}
 use Rattle.sync_values.specs.declared.edit.Edit.TheVariants.{SetPreference}
 use Rattle.sync_model.specs.Worlds.{opening, client_at}
-use Rattle.sync_model.proofs.Runs.{symbols, text_of, after, outcome_of, events_of, set, del}
+use Rattle.sync_model.proofs.Runs.{symbols, text_of, after, events_of, set, del}
 
 -- a world of one client before any event
 abbrev NoEvents : Type 0
@@ -80,19 +80,6 @@ LostReply =
     ∷ "side 1 password mark 1 due 0 reseal 0 pending 0 mailbox 0" ∷ "value 1 preference a known 1 a 1"
     ∷ "fate 1 preference 1 matched 1" ∷ "requests 2 deliveries 2" ∷ [])
 
--- the same, with a newer edit in between
-abbrev edited_again : List Event
-edited_again =
-    set 1 "a" "1" ∷ Gather 1 Preference ∷ Offer 1 ∷ Deliver 3 ∷ Lose 1 ∷ set 1 "a" "2" ∷ Ask 1 ∷ Deliver 7 ∷ Answer 8
-    ∷ Post 1 Preference ∷ Turn 1 Preference ∷ []
-
--- the newer edit loses to the older one
-abbrev OwnOlderWrite : Type 0
-OwnOlderWrite =
-    outcome_of (after 1 [] edited_again) 1
-    ≡ text_of ("value 1 preference a known 1 a 1" ∷ "fate 1 preference 1 followed 2"
-    ∷ "fate 1 preference 2 taken 1 C6" ∷ [])
-
 -- a preference is set, deleted and set again
 abbrev tombstone : List Event
 tombstone =
@@ -133,7 +120,7 @@ AskedTwice =
 -- a client sets so many preferences
 abbrev edits : ℕ → List Event
 edits zero = []
-edits (suc count) = edits count ++ Edit 1 (SetPreference record { name = count ∷ []; value = [] }) ∷ []
+edits (suc count) = edits count ++ Edit 1 (SetPreference record { name = count ∷ []; value = []; extra = [] }) ∷ []
 
 -- a commit is filled, and another type gathered then
 abbrev filled : List Event
@@ -152,6 +139,6 @@ FullCommitIsDone =
     ≡ text_of ("events 28 void 0" ∷ [])
 
 -- all of them hold
-pub rows : NoEvents × RepeatedCommit × NamedRun × LostReply × OwnOlderWrite × TombstoneIsKept × AskedTwice × FullCommit × FullCommitIsDone
-unfolding symbols digits text_word kind_word same_value names with_keys answer_to committed answers_to wanted_writes reply_to history_served row_of updated fate_of_update acknowledged ended after_update after_updates after_ack after_acks update_notes notes_of after_task task_notes with_all_due with_reseals bag_with sealed drawn_for gather_effect ask_effect offer_effect lose_effect acks_of updates_in answer_effect post_effect turn_effect edit_effect change_effect cut_effect crash_effect set_pass_effect give_pass_effect outcome_at affected STORE_BIRTHDAY stepped run fate_of edits_made events_text server_text key_text nigori_text value_text lock_text entity_line entity_lines client_text side_text value_line_text row_word fate_text fate_line client_lines clients_lines totals_text report
-rows = (refl, refl, refl, refl, refl, refl, refl, refl, refl)
+pub rows : NoEvents × RepeatedCommit × NamedRun × LostReply × TombstoneIsKept × AskedTwice × FullCommit × FullCommitIsDone
+unfolding symbols digits text_word kind_word same_value names with_keys answer_to committed answers_to wanted_writes reply_to history_served row_of noted is_echo updated fate_of_update acknowledged ended after_offers after_update after_updates after_ack after_acks update_notes notes_of after_task task_notes with_all_due with_reseals bag_with sealed drawn_for gather_effect ask_effect offer_effect lose_effect acks_of updates_in answer_effect post_effect turn_effect edit_effect change_effect cut_effect crash_effect set_pass_effect give_pass_effect outcome_at affected STORE_BIRTHDAY stepped run fate_of edits_made events_text server_text key_text nigori_text extra_text value_text lock_text entity_line entity_lines client_text side_text value_line_text row_word fate_text fate_line client_lines clients_lines totals_text report
+rows = (refl, refl, refl, refl, refl, refl, refl, refl)

@@ -10,29 +10,29 @@ use Rattle.sync_model.specs.declared.fate.Note.{Note}
 use Rattle.sync_model.specs.declared.message.Ack.{Ack}
 use Rattle.sync_model.specs.declared.state.KeyState.{KeyState}
 use Rattle.sync_model.specs.KeyStates.{is_ignored, still_due, acknowledged, ended}
-use Rattle.sync_model.specs.Sides.{States, state_at, replaced, after_ack, after_acks, note_of, notes_of}
+use Rattle.sync_model.specs.Sides.{States, state_at, with_state, after_ack, after_acks, note_of, notes_of}
 use Rattle.sync_model.specs.FateFacts.{AreNumbered, IsOnlyOf, StandsOn}
-use Rattle.sync_model.proofs.KeyLookups.{replaced-IsSetAt}
-use Rattle.sync_model.proofs.FateKeys.{each_replaced, numbered_at, fate_in, after_ack_numbered}
+use Rattle.sync_model.proofs.KeyLookups.{with_state-IsSetAt}
+use Rattle.sync_model.proofs.FateKeys.{each_put, numbered_at, fate_in, after_ack_numbered}
 use Rattle.sync_model.proofs.FateUpdates.{only_at, none_first, settled_first, StillStands}
 
--- the key's state is replaced by one with this edit due, or by that of another edit
-replaced_stands : (edit : ℕ) (hash : List ℕ) (value : Value) (states : States) (other : List ℕ) (state : KeyState)
+-- at a key there is put a state with this edit due, or by that of another edit
+put_stands : (edit : ℕ) (hash : List ℕ) (value : Value) (states : States) (other : List ℕ) (state : KeyState)
     → (hash ≡ other → (state.due ≡ Some edit) × (state.own ≡ value)) → IsOnlyOf edit hash value other state
-    → StandsOn edit hash value states → StandsOn edit hash value (replaced states other state)
-replaced_stands edit hash value states other state here only stands = by (replaced-IsSetAt states other state hash)
+    → StandsOn edit hash value states → StandsOn edit hash value (with_state states other state)
+put_stands edit hash value states other state here only stands = by (with_state-IsSetAt states other state hash)
   where
-    by : ((state_at (replaced states other state) hash ≡ state_at states hash) ⊎ ((state_at (replaced states other state) hash ≡ state) × (hash ≡ other)))
-        → StandsOn edit hash value (replaced states other state)
+    by : ((state_at (with_state states other state) hash ≡ state_at states hash) ⊎ ((state_at (with_state states other state) hash ≡ state) × (hash ≡ other)))
+        → StandsOn edit hash value (with_state states other state)
     by (inl same) = record {
       due = ap (λ (found : KeyState). found.due) same ∙ stands.due;
       own = ap (λ (found : KeyState). found.own) same ∙ stands.own;
-      alone = each_replaced (IsOnlyOf edit hash value) states other state only stands.alone;
+      alone = each_put (IsOnlyOf edit hash value) states other state only stands.alone;
     }
     by (inr put) = record {
       due = ap (λ (found : KeyState). found.due) put.0 ∙ (here put.1).0;
       own = ap (λ (found : KeyState). found.own) put.0 ∙ (here put.1).1;
-      alone = each_replaced (IsOnlyOf edit hash value) states other state only stands.alone;
+      alone = each_put (IsOnlyOf edit hash value) states other state only stands.alone;
     }
 
 -- an acknowledgement keeps the number of a key's last edit
@@ -47,6 +47,7 @@ acknowledged_last state ack = by (is_ignored state ack)
       due = still_due state.due ack.number;
       last_edit = state.last_edit;
       lock = ack.lock;
+      offered = [];
     }).last_edit ≡ state.last_edit
     by true = refl
     by false = refl
@@ -78,11 +79,15 @@ other_ack : (edit last : ℕ) (hash : List ℕ) (value : Value) (states : States
     → StillStands edit hash value (after_ack states ack) (note_of (ended (state_at states ack.hash) ack) ack.version)
 unfolding after_ack
 other_ack edit last hash value states ack numbered other stands = (
-  replaced_stands edit hash value states ack.hash (acknowledged (state_at states ack.hash) ack)
-      (λ same. absurd (other (subst (λ (key : List ℕ). (state_at states key).last_edit ≡ edit) same (last_at edit last hash value states numbered stands))))
-      (λ is. absurd (other (sym (acknowledged_last (state_at states ack.hash) ack) ∙ is))) stands,
+  by (is_ignored (state_at states ack.hash) ack),
   other_ended (state_at states ack.hash) ack edit (numbered_at last states ack.hash numbered).due other,
 )
+  where
+    by : (ignored : Bool) → StandsOn edit hash value (cond ignored states (with_state states ack.hash (acknowledged (state_at states ack.hash) ack)))
+    by true = stands
+    by false = put_stands edit hash value states ack.hash (acknowledged (state_at states ack.hash) ack)
+        (λ same. absurd (other (subst (λ (key : List ℕ). (state_at states key).last_edit ≡ edit) same (last_at edit last hash value states numbered stands))))
+        (λ is. absurd (other (sym (acknowledged_last (state_at states ack.hash) ack) ∙ is))) stands
 
 -- an acknowledgement, of which this holds, has the number of an edit, and settles it
 pub record IsAckedBy (Q : Ack → Type 0) (edit : ℕ) (hash : List ℕ) (fate : Fate) : Type 0 where
@@ -109,31 +114,29 @@ ack_here_by : (Q : Ack → Type 0) (edit : ℕ) (value : Value) (states : States
     → is_ignored (state_at states ack.hash) ack ≡ ignored → left ≡ cond (leb edit ack.number) None (Some edit) → Q ack
     → (state_at states ack.hash).last_edit ≡ edit → StandsOn edit ack.hash value states
     → AfterAck Q edit ack.hash value
-    (replaced states ack.hash (cond ignored (state_at states ack.hash) record {
+    (cond ignored states (with_state states ack.hash (cond ignored (state_at states ack.hash) record {
       known = ack.version;
       base = ack.value;
       own = cond (is_some left) (state_at states ack.hash).own ack.value;
       due = left;
       last_edit = (state_at states ack.hash).last_edit;
       lock = ack.lock;
-    }))
+      offered = [];
+    })))
     (note_of (cond ignored None (cond (is_some left) None (state_at states ack.hash).due)) ack.version)
 ack_here_by Q edit value states ack left true is left_is holds last stands =
-    inl (
-      replaced_stands edit ack.hash value states ack.hash (state_at states ack.hash) (λ same. (stands.due, stands.own))
-          (λ is. (refl, stands.due, stands.own)) stands,
-      refl,
-    )
+    inl (stands, refl)
 ack_here_by Q edit value states ack None false is left_is holds last stands = by (leb edit ack.number) refl left_is
   where
     by : (over : Bool) → leb edit ack.number ≡ over → None ≡ cond over None (Some edit) → AfterAck Q edit ack.hash value
-        (replaced states ack.hash record {
+        (with_state states ack.hash record {
           known = ack.version;
           base = ack.value;
           own = ack.value;
           due = None;
           last_edit = (state_at states ack.hash).last_edit;
           lock = ack.lock;
+          offered = [];
         })
         (note_of (state_at states ack.hash).due ack.version)
     by true over is_left = inr (
@@ -151,13 +154,14 @@ ack_here_by Q edit value states ack None false is left_is holds last stands = by
 ack_here_by Q edit value states ack (Some due) false is left_is holds last stands = by (leb edit ack.number) left_is
   where
     by : (over : Bool) → Some due ≡ cond over None (Some edit) → AfterAck Q edit ack.hash value
-        (replaced states ack.hash record {
+        (with_state states ack.hash record {
           known = ack.version;
           base = ack.value;
           own = (state_at states ack.hash).own;
           due = Some due;
           last_edit = (state_at states ack.hash).last_edit;
           lock = ack.lock;
+          offered = [];
         }) []
     by true is_left = absurd (none-some due (sym is_left))
     by false is_left =
@@ -168,9 +172,10 @@ ack_here_by Q edit value states ack (Some due) false is left_is holds last stand
           due = Some due;
           last_edit = (state_at states ack.hash).last_edit;
           lock = ack.lock;
+          offered = [];
         }
         in inl (
-          replaced_stands edit ack.hash value states ack.hash state (λ same. (is_left, stands.own))
+          put_stands edit ack.hash value states ack.hash state (λ same. (is_left, stands.own))
               (λ is. (refl, is_left, stands.own)) stands,
           refl,
         )

@@ -18,7 +18,7 @@ use Rattle.sync_model.specs.Edits.{edit_kind, edit_value}
 use Rattle.sync_model.specs.Settings.{Setting}
 use Rattle.sync_model.specs.KeyStates.{edited}
 use Rattle.sync_model.specs.Sides.{States, Side, state_at, with_state}
-use Rattle.sync_model.specs.Changes.{edit_hash, follows}
+use Rattle.sync_model.specs.Changes.{edit_hash, own_at, follows}
 use Rattle.sync_model.specs.Fates.{fate_of}
 use Rattle.sync_model.specs.Worlds.{World, stepped}
 use Rattle.sync_model.specs.Laws.{world_before, last_outcome, IsTrueFate}
@@ -99,10 +99,10 @@ left setting event world place kind edit hash value facts unsettled step counted
 }
 
 -- what a further event makes of an edit that is not settled
-abbrev pub Next : Setting → Schedule → ℕ → ℕ → Edit → World → Type 0
-Next setting schedule place number edit next =
-    IsUnsettled (suc place) (edit_kind edit) number (edit_hash setting edit) (edit_value edit) next
-    ⊎ ((fate : Fate) × (fate_of next.settlements (suc place) (edit_kind edit) number ≡ Some fate) × IsTrueFate setting schedule (suc place) number edit (Some fate))
+abbrev pub Next : Setting → Schedule → ℕ → ℕ → Edit → Value → World → Type 0
+Next setting schedule place number edit value next =
+    IsUnsettled (suc place) (edit_kind edit) number (edit_hash setting edit) value next
+    ⊎ ((fate : Fate) × (fate_of next.settlements (suc place) (edit_kind edit) number ≡ Some fate) × IsTrueFate setting schedule (suc place) number edit value (Some fate))
 
 -- an edit of another key leaves it
 edited_stands : (edit last later : ℕ) (hash other : List ℕ) (value own : Value) (states : States) → edit ≤ last → later ≡ last + 1
@@ -119,10 +119,10 @@ follows_own None later edit is = absurd (none-some edit is)
 follows_own (Some number) later edit is = cond-true _ _ _ (eq-eqb number edit (same_Some number edit is))
 
 -- an edit on the same side
-pub editing_next : (setting : Setting) (schedule : Schedule) (place number : ℕ) (edit : Edit) (before later : List Event) (event : Event)
+pub editing_next : (setting : Setting) (schedule : Schedule) (place number : ℕ) (edit : Edit) (value : Value) (before later : List Event) (event : Event)
     → schedule.events ≡ before ++ event ∷ later → 0 < number
     → NumberFacts (world_before setting schedule before)
-    → IsUnsettled (suc place) (edit_kind edit) number (edit_hash setting edit) (edit_value edit) (world_before setting schedule before)
+    → IsUnsettled (suc place) (edit_kind edit) number (edit_hash setting edit) value (world_before setting schedule before)
     → (step : IsStep setting event (world_before setting schedule before) (stepped setting event (world_before setting schedule before)) place (edit_kind edit))
     → IsCounted (side_at (world_before setting schedule before) (suc place) (edit_kind edit))
     (side_at (stepped setting event (world_before setting schedule before)) (suc place) (edit_kind edit)) step.noted
@@ -130,8 +130,8 @@ pub editing_next : (setting : Setting) (schedule : Schedule) (place number : ℕ
     (side_at (world_before setting schedule before) (suc place) (edit_kind edit))
     (side_at (stepped setting event (world_before setting schedule before)) (suc place) (edit_kind edit)) step.noted
     (last_outcome (stepped setting event (world_before setting schedule before)))
-    → Next setting schedule place number edit (stepped setting event (world_before setting schedule before))
-editing_next setting schedule place number edit before later event splits some facts unsettled step counted editing =
+    → Next setting schedule place number edit value (stepped setting event (world_before setting schedule before))
+editing_next setting schedule place number edit value before later event splits some facts unsettled step counted editing =
     by (bytes_eq (edit_hash setting editing.edit) (edit_hash setting edit)) refl
   where
     world : World
@@ -141,7 +141,7 @@ editing_next setting schedule place number edit before later event splits some f
     old = side_at (world_before setting schedule before) (suc place) (edit_kind edit)
 
     by : (same : Bool) → bytes_eq (edit_hash setting editing.edit) (edit_hash setting edit) ≡ same
-        → Next setting schedule place number edit (stepped setting event (world_before setting schedule before))
+        → Next setting schedule place number edit value (stepped setting event (world_before setting schedule before))
     by true is =
         let same : edit_hash setting editing.edit ≡ edit_hash setting edit = (bytes_eq-Decides (edit_hash setting editing.edit) (edit_hash setting edit)).0 is
         in inr (
@@ -154,11 +154,12 @@ editing_next setting schedule place number edit before later event splits some f
     by false is =
         let differs : edit_hash setting editing.edit ≡ edit_hash setting edit → ⊥
         = λ same. false≢true (sym is ∙ (bytes_eq-Decides (edit_hash setting editing.edit) (edit_hash setting edit)).1 same)
-        in inl (left setting event world place (edit_kind edit) number (edit_hash setting edit) (edit_value edit) facts unsettled step counted
-        (subst (λ (states : States). StandsOn number (edit_hash setting edit) (edit_value edit) states) (sym editing.states)
-        (edited_stands number old.last_edit (old.last_edit + 1) (edit_hash setting edit) (edit_hash setting editing.edit) (edit_value edit) (edit_value editing.edit) old.states
+        in inl (left setting event world place (edit_kind edit) number (edit_hash setting edit) value facts unsettled step counted
+        (subst (λ (states : States). StandsOn number (edit_hash setting edit) value states) (sym editing.states)
+        (edited_stands number old.last_edit (old.last_edit + 1) (edit_hash setting edit) (edit_hash setting editing.edit) value
+        (edit_value (own_at old (edit_hash setting editing.edit)) editing.edit) old.states
         unsettled.counted refl differs unsettled.stands))
         (editing.settles number ∙ follows_other (state_at old.states (edit_hash setting editing.edit)).due
         (state_at old.states (edit_hash setting editing.edit)).last_edit (old.last_edit + 1) number
         (numbered_at old.last_edit old.states (edit_hash setting editing.edit) (facts.keys place (edit_kind edit))).due
-        (λ is. differs (only_at number (edit_hash setting edit) (edit_value edit) old.states (edit_hash setting editing.edit) some unsettled.stands is).0)))
+        (λ is. differs (only_at number (edit_hash setting edit) value old.states (edit_hash setting editing.edit) some unsettled.stands is).0)))

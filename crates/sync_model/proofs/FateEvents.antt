@@ -16,10 +16,10 @@ use Rattle.sync_model.specs.declared.message.Task.TheVariants.{Batch as Updating
 use Rattle.sync_model.specs.Values.{same_kind}
 use Rattle.sync_model.specs.Edits.{edit_kind, edit_value}
 use Rattle.sync_model.specs.Settings.{Setting, decided_by, with_key}
-use Rattle.sync_model.specs.Sides.{Side, side_edited, mailed}
+use Rattle.sync_model.specs.Sides.{Side, side_edited, side_offered, mailed}
 use Rattle.sync_model.specs.Clients.{Client, Effect, side_of, with_side, plain_effect, opens, batch_mailed, wanted_name}
-use Rattle.sync_model.specs.Changes.{edit_hash, edit_refusal, edit_taken, edit_effect, change_effect, cut_short, cut_effect, crash_effect, pass_value, set_pass_refusal, set_pass_effect, give_pass_refusal, give_pass_effect}
-use Rattle.sync_model.specs.Sending.{sealed, gathered, gathering, is_gather_void, gather_effect, ask_of, is_busy, ask_effect, commit_of, offer_effect, lose_effect}
+use Rattle.sync_model.specs.Changes.{edit_hash, own_at, edit_refusal, edit_taken, edit_effect, change_effect, cut_short, cut_effect, crash_effect, pass_value, set_pass_refusal, set_pass_effect, give_pass_refusal, give_pass_effect}
+use Rattle.sync_model.specs.Sending.{sealed, asked_offers, holding, gathered, gathering, is_gather_void, gather_effect, ask_of, is_busy, ask_effect, commit_of, offer_effect, lose_effect}
 use Rattle.sync_model.specs.Receiving.{posted, post_effect_at, post_effect, turn_effect_at, turn_effect}
 use Rattle.sync_model.specs.Worlds.{outcome_at}
 use Rattle.sync_model.specs.FateFacts.{Saying, IsSaidOfEntry, IsSaidOfCall, AreOfDistinctKeys, IsSaidOfTask, IsSaidOfSide, IsSaidOfClient}
@@ -34,7 +34,7 @@ edit_taken-said : (Says : ℕ → Saying) (number : ℕ) (outcomes : List EventO
     → IsSaidOfClient (Says number) number outcomes client → IsSaidOfEffect Says number outcomes (Some (edit_taken setting number edit client))
 edit_taken-said Says number outcomes setting edit client said = (
   client-later (Says number) number outcomes _ _ (with_side-said (Says number) number outcomes client (edit_kind edit)
-      (side_edited (side_of client (edit_kind edit)) (edit_hash setting edit) (edit_value edit))
+      (side_edited (side_of client (edit_kind edit)) (edit_hash setting edit) (edit_value (own_at (side_of client (edit_kind edit)) (edit_hash setting edit)) edit))
       record { mailbox = (said.sides (edit_kind edit)).mailbox; pending = (said.sides (edit_kind edit)).pending; letter = (said.sides (edit_kind edit)).letter }
       said),
   tt,
@@ -117,10 +117,13 @@ gathering-said Says number outcomes setting kind client (Some batch) distinct ke
     by true = batch_mailed-said Says number outcomes setting client kind (side_of client kind) batch (said.sides kind) distinct said
     by false = said
 gathering-said Says number outcomes setting kind client None distinct keys said =
-    alike-said Says number outcomes client _ refl refl refl
+    let holds : Client = holding kind (wanted_name setting client kind) (gathered setting kind client) client
+    in let held : IsSaidOfClient Says number outcomes holds = alike-said Says number outcomes client holds refl refl refl
     (all_append (IsSaidOfEntry Says) client.held (sealed kind (wanted_name setting client kind) client.drawn (gathered setting kind client)) said.held
     (sealed_said Says kind (wanted_name setting client kind) client.drawn (gathered setting kind client) (gathered_said Says setting kind client keys)))
     said.awaits said.sides
+    in with_side-said Says number outcomes holds kind (side_offered (side_of holds kind) (asked_offers setting kind client))
+    record { mailbox = (held.sides kind).mailbox; pending = (held.sides kind).pending; letter = (held.sides kind).letter } held
 
 pub gather_effect-said : (Says : ℕ → Saying) (number : ℕ) (outcomes : List EventOutcome) (setting : Setting) (kind : Kind) (client : Client)
     → Each (λ hash. IsSaidOfKey (Says number) kind) (side_of client kind).states

@@ -18,7 +18,7 @@ use Rattle.sync_model.specs.declared.message.Task.TheVariants.{Batch as Updating
 use Rattle.sync_model.specs.declared.message.Update.{Update}
 use Rattle.sync_model.specs.declared.state.KeyState.{KeyState}
 use Rattle.sync_model.specs.KeyStates.{new_state, is_old, settled, accepted, resolution_of, updated, fate_of_update, is_ignored, still_due, acknowledged, ended}
-use Rattle.sync_model.specs.Sides.{States, Side, state_at, with_state, replaced, after_update, after_updates, after_ack, after_acks, after_task, note_with, update_notes, note_of, notes_of, task_notes}
+use Rattle.sync_model.specs.Sides.{States, Side, state_at, with_state, after_update, after_updates, after_ack, after_acks, after_task, note_with, update_notes, note_of, notes_of, task_notes}
 use Rattle.sync_model.specs.FateFacts.{IsNumbered, AreNumbered}
 use Rattle.sync_model.proofs.KeyLookups.{tested_same}
 use Rattle.sync_model.proofs.TrueAcks.{all_append}
@@ -54,20 +54,6 @@ pub each_put : (P : List ℕ → KeyState → Type 0) (states : States) (hash : 
 each_put P [] hash state put all = (put, tt)
 each_put P (here ∷ states) hash state put all =
     each_put_by P (slice_cmp nat_cmp hash here.0) states here hash state refl put all (each_put P states hash state put all.1)
-
--- a state of which this holds replaces that of a key
-each_replaced_by : (P : List ℕ → KeyState → Type 0) (found : Bool) (states : States) (here : List ℕ × KeyState) (hash : List ℕ) (state : KeyState)
-    → is_eq (slice_cmp nat_cmp hash here.0) ≡ found → P hash state → Each P (here ∷ states) → Each P (replaced states hash state)
-    → Each P (cond found ((here.0, state) ∷ states) (here ∷ replaced states hash state))
-each_replaced_by P true states here hash state is put all rest =
-    (subst (λ (key : List ℕ). P key state) (tested_same hash here.0 is) put, all.1)
-each_replaced_by P false states here hash state is put all rest = (all.0, rest)
-
-pub each_replaced : (P : List ℕ → KeyState → Type 0) (states : States) (hash : List ℕ) (state : KeyState)
-    → P hash state → Each P states → Each P (replaced states hash state)
-each_replaced P [] hash state put all = tt
-each_replaced P (here ∷ states) hash state put all =
-    each_replaced_by P (is_eq (slice_cmp nat_cmp hash here.0)) states here hash state refl put all (each_replaced P states hash state put all.1)
 
 -- the state at a key is numbered as all are
 pub numbered_at : (last : ℕ) (states : States) (hash : List ℕ) → AreNumbered last states → IsNumbered last (state_at states hash)
@@ -162,6 +148,7 @@ acknowledged_numbered last state ack is = by (is_ignored state ack)
       due = still_due state.due ack.number;
       last_edit = state.last_edit;
       lock = ack.lock;
+      offered = [];
     })
     by true = is
     by false = record { due = still_numbered state.due ack.number state.last_edit is.due; within = is.within }
@@ -181,9 +168,12 @@ ended_within (Some number) version own last is le = (omega (arith, is, le), tt)
 
 pub after_ack_numbered : (last : ℕ) (states : States) (ack : Ack) → AreNumbered last states → AreNumbered last (after_ack states ack)
 unfolding after_ack
-after_ack_numbered last states ack all =
-    each_replaced (λ key state. IsNumbered last state) states ack.hash _
-    (acknowledged_numbered last (state_at states ack.hash) ack (numbered_at last states ack.hash all)) all
+after_ack_numbered last states ack all = by (is_ignored (state_at states ack.hash) ack)
+  where
+    by : (ignored : Bool) → AreNumbered last (cond ignored states (with_state states ack.hash (acknowledged (state_at states ack.hash) ack)))
+    by true = all
+    by false = each_put (λ key state. IsNumbered last state) states ack.hash _
+        (acknowledged_numbered last (state_at states ack.hash) ack (numbered_at last states ack.hash all)) all
 
 acks_numbered : (last : ℕ) (states : States) (acks : List Ack) → AreNumbered last states
     → AreNumbered last (after_acks states acks) × AreNotedWithin last (notes_of states acks)

@@ -1,5 +1,5 @@
 -- What each event of a client makes of its keys of each type, and which edits it settles.
-use Rattle.std.proofs.Common.{◌≡◌, ℕ, ◌++◌, Bool, true, false, cond, List, [], ◌∷◌, length, Option, Some, None, is_some, refl, ap, ◌∙◌, eqb, inl, inr, ◌||◌, not}
+use Rattle.std.proofs.Common.{◌≡◌, ℕ, ◌++◌, Bool, true, false, cond, List, [], ◌∷◌, length, Option, Some, None, is_some, refl, sym, ap, ◌∙◌, subst, eqb, inl, inr, ◌||◌, not}
 use Rattle.client_tags.specs.declared.Kind.{Kind}
 use Rattle.client_tags.specs.declared.Kind.TheVariants.{Nigori, Preference, Password}
 use Rattle.key_derivation.specs.declared.NigoriKey.{NigoriKey}
@@ -16,28 +16,31 @@ use Rattle.sync_model.specs.declared.message.Batch.{Batch}
 use Rattle.sync_model.specs.declared.message.Reply.{Reply}
 use Rattle.sync_model.specs.declared.message.Request.{Request}
 use Rattle.sync_model.specs.declared.message.Content.{Content}
+use Rattle.sync_model.specs.declared.message.Entry.{Entry}
+use Rattle.sync_model.specs.declared.message.Offer.{Offer}
 use Rattle.sync_model.specs.declared.message.Task.{Task}
 use Rattle.sync_model.specs.declared.message.Task.TheVariants.{Batch as Updating, Acks}
 use Rattle.sync_model.specs.Values.{same_kind}
 use Rattle.sync_model.specs.Edits.{edit_kind, edit_value}
 use Rattle.sync_model.specs.Settings.{Setting, decided_by, with_key}
-use Rattle.sync_model.specs.Sides.{Side, side_edited, after_task, task_notes, mailed}
+use Rattle.sync_model.specs.Sides.{Side, side_edited, side_offered, after_task, task_notes, mailed}
 use Rattle.sync_model.specs.Clients.{Client, Effect, side_of, with_side, restarted, plain_effect, wanted_name, opens, bag_with, batch_mailed}
-use Rattle.sync_model.specs.Changes.{edit_hash, edit_refusal, edit_taken, edit_effect, change_effect, cut_short, cut_effect, crash_effect, pass_value, set_pass_refusal, set_pass_effect, give_pass_refusal, give_pass_effect}
-use Rattle.sync_model.specs.Sending.{holding, gathered, gathering, is_gather_void, gather_effect, ask_of, is_busy, ask_effect, commit_of, offer_effect, lose_effect}
+use Rattle.sync_model.specs.Changes.{edit_hash, own_at, edit_refusal, edit_taken, edit_effect, change_effect, cut_short, cut_effect, crash_effect, pass_value, set_pass_refusal, set_pass_effect, give_pass_refusal, give_pass_effect}
+use Rattle.sync_model.specs.Sending.{holding, asked_offers, gathered, gathering, is_gather_void, gather_effect, ask_of, is_busy, ask_effect, commit_of, offer_effect, lose_effect}
 use Rattle.sync_model.specs.Receiving.{posted, post_effect_at, post_effect, turn_effect_at, turn_effect, told, is_other_store, is_fit, answered_with, answer_effect}
 use Rattle.sync_model.specs.Report.{is_void}
 use Rattle.sync_model.specs.Worlds.{World}
 use Rattle.sync_model.specs.Laws.{user_of, edit_by}
 use Rattle.sync_model.proofs.KnownClients.{with_side_keeps}
-use Rattle.sync_model.proofs.FateSteps.{IsKept, AreKept, Makes, noted_by, EffectMakes, makes_by, plain_makes}
+use Rattle.sync_model.proofs.FateSteps.{IsKept, kept_noted, AreKept, AreNoted, Makes, noted_by, EffectMakes, makes_by, noting_makes, plain_makes}
 
 -- an edit
 edit_taken-makes : (setting : Setting) (event : Event) (world : World) (number : ℕ) (edit : UserEdit) (client : Client)
     → user_of event ≡ number → edit_by setting world event ≡ Some edit
     → EffectMakes setting event world number client (Some (edit_taken setting number edit client))
 edit_taken-makes setting event world number edit client user makes =
-    makes_by setting event world number client (edit_kind edit) (side_edited (side_of client (edit_kind edit)) (edit_hash setting edit) (edit_value edit))
+    makes_by setting event world number client (edit_kind edit) (side_edited (side_of client (edit_kind edit)) (edit_hash setting edit)
+    (edit_value (own_at (side_of client (edit_kind edit)) (edit_hash setting edit)) edit))
     (edit_taken setting number edit client) refl refl (inr (inl record {
       edit = edit;
       of_kind = refl;
@@ -67,7 +70,7 @@ then_kept : (setting : Setting) (event : Event) (world : World) (number : ℕ) (
     → IsKept new next → is_void later ≡ false → Makes setting event world number kind old new noted outcome
     → Makes setting event world number kind old next noted later
 then_kept setting event world number kind old new next noted outcome later kept done (inl quiet) =
-    inl record { kept = (kept.0 ∙ quiet.kept.0, kept.1 ∙ quiet.kept.1); silent = quiet.silent }
+    inl record { kept = (quiet.kept.0, kept.0 ∙ quiet.kept.1, kept.1 ∙ quiet.kept.2); silent = quiet.silent }
 then_kept setting event world number kind old new next noted outcome later kept done (inr (inl editing)) = inr (inl record {
   edit = editing.edit;
   of_kind = editing.of_kind;
@@ -173,15 +176,40 @@ with_bag_kept old client bag kept Preference = kept Preference
 with_bag_kept old client bag kept Password = kept Password
 
 -- a batch that is mailed, and a gather
-gathering_kept : (setting : Setting) (kind : Kind) (client : Client) (pending : Option Batch) → AreKept client (gathering setting kind client pending)
-gathering_kept setting kind client (Some batch) = by (opens setting client.bag batch)
+mailing_kept : (setting : Setting) (kind : Kind) (client : Client) (batch : Batch) → AreKept client (gathering setting kind client (Some batch))
+mailing_kept setting kind client batch = by (opens setting client.bag batch)
   where
     by : (opened : Bool) → AreKept client (cond opened (batch_mailed setting client kind (side_of client kind) batch) client)
     by true = with_bag_kept client (with_side client kind (mailed (side_of client kind) batch)) (bag_with setting client.bag batch.updates)
         (side_kept client kind (mailed (side_of client kind) batch) (refl, refl))
     by false = λ kind. (refl, refl)
-gathering_kept setting kind client None =
-    alike_kept client (holding kind (wanted_name setting client kind) (gathered setting kind client) client) refl refl refl
+
+-- the sides of a client that holds more, and whose side of a type notes some offers
+holding_noted : (client : Client) (held : List (Entry Content)) (drawn : ℕ) (kind : Kind) (offers : List Offer)
+    → AreNoted client (with_side (record client { held = held; drawn = drawn }) kind (side_offered (side_of client kind) offers))
+holding_noted client held drawn Nigori offers Nigori = (offers, refl, refl)
+holding_noted client held drawn Nigori offers Preference = kept_noted client.preference client.preference (refl, refl)
+holding_noted client held drawn Nigori offers Password = kept_noted client.password client.password (refl, refl)
+holding_noted client held drawn Preference offers Nigori = kept_noted client.nigori client.nigori (refl, refl)
+holding_noted client held drawn Preference offers Preference = (offers, refl, refl)
+holding_noted client held drawn Preference offers Password = kept_noted client.password client.password (refl, refl)
+holding_noted client held drawn Password offers Nigori = kept_noted client.nigori client.nigori (refl, refl)
+holding_noted client held drawn Password offers Preference = kept_noted client.preference client.preference (refl, refl)
+holding_noted client held drawn Password offers Password = (offers, refl, refl)
+
+-- a client that holds more has the same sides
+side_of-held : (client : Client) (held : List (Entry Content)) (drawn : ℕ) (kind : Kind) → side_of (record client { held = held; drawn = drawn }) kind ≡ side_of client kind
+side_of-held client held drawn Nigori = refl
+side_of-held client held drawn Preference = refl
+side_of-held client held drawn Password = refl
+
+gathering_noted : (setting : Setting) (kind : Kind) (client : Client) (pending : Option Batch) → AreNoted client (gathering setting kind client pending)
+gathering_noted setting kind client (Some batch) = λ other.
+    kept_noted (side_of client other) (side_of (gathering setting kind client (Some batch)) other) (mailing_kept setting kind client batch other)
+gathering_noted setting kind client None =
+    let holds : Client = holding kind (wanted_name setting client kind) (gathered setting kind client) client
+    in subst (λ (side : Side). AreNoted client (with_side holds kind (side_offered side (asked_offers setting kind client))))
+    (sym (side_of-held client holds.held holds.drawn kind)) (holding_noted client holds.held holds.drawn kind (asked_offers setting kind client))
 
 pub gather_effect-makes : (setting : Setting) (event : Event) (world : World) (number : ℕ) (kind : Kind) (client : Client)
     → EffectMakes setting event world number client (gather_effect setting kind client)
@@ -190,7 +218,7 @@ gather_effect-makes setting event world number kind client = by (is_gather_void 
   where
     by : (void : Bool) → EffectMakes setting event world number client (cond void None (Some (plain_effect (gathering setting kind client (side_of client kind).pending) Done)))
     by true = tt
-    by false = plain_makes setting event world number client (gathering setting kind client (side_of client kind).pending) Done (gathering_kept setting kind client (side_of client kind).pending)
+    by false = noting_makes setting event world number client (gathering setting kind client (side_of client kind).pending) Done (gathering_noted setting kind client (side_of client kind).pending)
 
 -- requests
 pub ask_effect-makes : (setting : Setting) (event : Event) (world : World) (number next : ℕ) (client : Client)

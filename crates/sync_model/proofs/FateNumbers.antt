@@ -15,12 +15,13 @@ use Rattle.sync_model.specs.Settings.{Setting, decided_by}
 use Rattle.sync_model.specs.KeyStates.{edited}
 use Rattle.sync_model.specs.Sides.{States, Side, state_at, after_task, task_notes}
 use Rattle.sync_model.specs.Clients.{new_client, side_of}
-use Rattle.sync_model.specs.Changes.{edit_hash, follows}
+use Rattle.sync_model.specs.Changes.{edit_hash, own_at, follows}
 use Rattle.sync_model.specs.Fates.{fate_of}
 use Rattle.sync_model.specs.Worlds.{World, opening, outcome_at, stepped, run, world_of}
 use Rattle.sync_model.specs.Laws.{last_outcome}
 use Rattle.sync_model.specs.FateFacts.{IsSaidOfClient, IsSaidOnTheWay, IsNumbered, AreNumbered, side_at, NumberFacts}
 use Rattle.sync_model.proofs.Longer.{all_then}
+use Rattle.sync_model.proofs.NotedKeys.{noted_numbered}
 use Rattle.sync_model.proofs.KnownWorlds.{opening_client}
 use Rattle.sync_model.proofs.FateKeys.{each_put, numbered_at, fate_in, AreNotedWithin, task_numbered}
 use Rattle.sync_model.proofs.FateWays.{way_weaker, new_client-said}
@@ -48,16 +49,17 @@ pub record IsCounted (old new : Side) (noted : ℕ → Option Fate) : Type 0 whe
 makes_counted : (setting : Setting) (event : Event) (world : World) (number : ℕ) (kind : Kind) (old new : Side) (noted : ℕ → Option Fate) (outcome : EventOutcome)
     → AreNumbered old.last_edit old.states → Makes setting event world number kind old new noted outcome → IsCounted old new noted
 makes_counted setting event world number kind old new noted outcome keys (inl quiet) = record {
-  keys = subst (λ (last : ℕ). AreNumbered last new.states) (sym quiet.kept.1)
-      (subst (λ (states : States). AreNumbered old.last_edit states) (sym quiet.kept.0) keys);
-  grows = omega (arith, quiet.kept.1);
+  keys = subst (λ (last : ℕ). AreNumbered last new.states) (sym quiet.kept.2)
+      (subst (λ (states : States). AreNumbered old.last_edit states) (sym quiet.kept.1)
+      (noted_numbered old.last_edit old.states quiet.kept.0 keys));
+  grows = omega (arith, quiet.kept.2);
   settles = λ edit above. quiet.silent edit;
 }
 makes_counted setting event world number kind old new noted outcome keys (inr (inl editing)) = record {
   keys = subst (λ (last : ℕ). AreNumbered last new.states) (sym editing.last)
       (subst (λ (states : States). AreNumbered (old.last_edit + 1) states) (sym editing.states)
       (each_put (λ key state. IsNumbered (old.last_edit + 1) state) old.states (edit_hash setting editing.edit)
-      (edited (state_at old.states (edit_hash setting editing.edit)) (edit_value editing.edit) (old.last_edit + 1))
+      (edited (state_at old.states (edit_hash setting editing.edit)) (edit_value (own_at old (edit_hash setting editing.edit)) editing.edit) (old.last_edit + 1))
       record { due = refl; within = le_refl _ }
       (all_then (λ (entry : List ℕ × KeyState) (is : IsNumbered old.last_edit entry.1). more entry.1 is) old.states keys)));
   grows = omega (arith, editing.last);

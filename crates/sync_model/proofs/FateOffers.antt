@@ -1,5 +1,5 @@
 -- What a side offers says of each edit what is said of the keys: so do the entries that are held.
-use Rattle.std.proofs.Common.{◌≡◌, ℕ, ◌-◌, ◌++◌, Bool, true, false, cond, List, [], ◌∷◌, length, Option, Some, None, sym, subst, IfSome, nat_le, ◌||◌}
+use Rattle.std.proofs.Common.{◌≡◌, ℕ, ◌-◌, ◌++◌, Bool, true, false, cond, List, [], ◌∷◌, length, Option, Some, None, sym, subst, IfSome, nat_le}
 use Rattle.std.specs.List.{AllByRecursion}
 use Rattle.client_tags.specs.declared.Kind.{Kind}
 use Rattle.sync_model.specs.declared.message.Offer.{Offer}
@@ -9,7 +9,7 @@ use Rattle.sync_model.specs.Settings.{Setting}
 use Rattle.sync_model.specs.Sides.{States}
 use Rattle.sync_model.specs.Offers.{offer_for, placed, with_due, with_all_due, due_offers, with_reseal, with_reseals, reseal_offers, offers_of}
 use Rattle.sync_model.specs.Clients.{Client, side_of, wanted_name}
-use Rattle.sync_model.specs.Sending.{MAX_ENTRIES, lock_for, drawn_after, sealed, is_held_back, lacks_own_lock, gathered}
+use Rattle.sync_model.specs.Sending.{MAX_ENTRIES, lock_for, drawn_after, sealed, is_held_back, lacks_own_lock, asked_offers, gathered}
 use Rattle.sync_model.specs.FateFacts.{Saying, IsSaidOfEntry}
 use Rattle.sync_model.proofs.TrueAcks.{all_append}
 use Rattle.sync_model.proofs.WantedWrites.{all_take}
@@ -29,7 +29,7 @@ placed_by : (P : Offer → Type 0) (offer next : Offer) (more rest : List Offer)
 placed_by P offer next more rest true is all placed_there = (all.0, placed_there)
 placed_by P offer next more rest false is all placed_there = (is, all)
 
-placed_all : (P : Offer → Type 0) (rank : Offer → ℕ) (offer : Offer) (offers : List Offer) → P offer → AllByRecursion P offers
+pub placed_all : (P : Offer → Type 0) (rank : Offer → ℕ) (offer : Offer) (offers : List Offer) → P offer → AllByRecursion P offers
     → AllByRecursion P (placed rank offer offers)
 placed_all P rank offer [] is all = (is, tt)
 placed_all P rank offer (next ∷ rest) is all =
@@ -70,17 +70,23 @@ offers_said Says kind name room states said =
     (all_append (IsSaidOfOffer Says kind) (due_offers states) (reseal_offers name states)
     (all_due_said Says kind [] states said tt) (reseals_said Says kind name [] states said tt))
 
-pub gathered_said : (Says : Saying) (setting : Setting) (kind : Kind) (client : Client) → Each (λ hash. IsSaidOfKey Says kind) (side_of client kind).states
-    → AllByRecursion (IsSaidOfOffer Says kind) (gathered setting kind client)
-gathered_said Says setting kind client said = by (is_held_back setting client kind || lacks_own_lock setting kind client.bag offers)
+-- what a gather asks a side for, and what may be sent of it
+pub asked_said : (Says : Saying) (setting : Setting) (kind : Kind) (client : Client) → Each (λ hash. IsSaidOfKey Says kind) (side_of client kind).states
+    → AllByRecursion (IsSaidOfOffer Says kind) (asked_offers setting kind client)
+asked_said Says setting kind client said = by (is_held_back setting client kind)
   where
-    offers : List Offer
-    offers = offers_of (wanted_name setting client kind) (MAX_ENTRIES - length client.held) (side_of client kind).states
-
     by : (held_back : Bool) → AllByRecursion (IsSaidOfOffer Says kind) (cond held_back []
         (offers_of (wanted_name setting client kind) (MAX_ENTRIES - length client.held) (side_of client kind).states))
     by true = tt
     by false = offers_said Says kind (wanted_name setting client kind) (MAX_ENTRIES - length client.held) (side_of client kind).states said
+
+pub gathered_said : (Says : Saying) (setting : Setting) (kind : Kind) (client : Client) → Each (λ hash. IsSaidOfKey Says kind) (side_of client kind).states
+    → AllByRecursion (IsSaidOfOffer Says kind) (gathered setting kind client)
+gathered_said Says setting kind client said = by (lacks_own_lock setting kind client.bag (asked_offers setting kind client))
+  where
+    by : (lacks : Bool) → AllByRecursion (IsSaidOfOffer Says kind) (cond lacks [] (asked_offers setting kind client))
+    by true = tt
+    by false = asked_said Says setting kind client said
 
 -- offers as entries
 pub sealed_said : (Says : Saying) (kind : Kind) (name : Option (List ℕ)) (drawn : ℕ) (offers : List Offer)

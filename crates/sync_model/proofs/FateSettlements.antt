@@ -24,7 +24,7 @@ use Rattle.sync_model.specs.Worlds.{World, client_at, with_client_at, outcome_at
 use Rattle.sync_model.specs.Laws.{last_outcome}
 use Rattle.sync_model.specs.FateFacts.{Saying, IsSaidOnTheWay, side_at}
 use Rattle.sync_model.proofs.FateKeys.{fate_in}
-use Rattle.sync_model.proofs.FateSteps.{Makes, noted_by, EffectMakes}
+use Rattle.sync_model.proofs.FateSteps.{kept_noted, Makes, noted_by, EffectMakes}
 use Rattle.sync_model.proofs.FateWorlds.{not_by_none}
 use Rattle.sync_model.proofs.FateMakes.{change_effect-makes, cut_effect-makes, crash_effect-makes, set_pass_effect-makes, give_pass_effect-makes, gather_effect-makes, ask_effect-makes, offer_effect-makes, lose_effect-makes, post_effect-makes, turn_effect-makes, answer_effect-makes}
 
@@ -73,7 +73,7 @@ put_same [] (suc place) client = put_same [] place client
 put_same (first ∷ clients) zero client = refl
 put_same (first ∷ clients) (suc place) client = put_same clients place client
 
-put_other : (clients : List Client) (place other : ℕ) (client : Client) → (place ≡ other → ⊥)
+pub put_other : (clients : List Client) (place other : ℕ) (client : Client) → (place ≡ other → ⊥)
     → slice_index_or (with_client_at clients place client) other new_client ≡ slice_index_or clients other new_client
 put_other [] zero zero client differs = absurd (differs refl)
 put_other [] zero (suc other) client differs = refl
@@ -101,7 +101,7 @@ quiet_step setting event world next place kind settlements clients = record {
   fates = λ edit. ap (λ (found : List Settlement). fate_of found (suc place) kind edit) settlements
       ∙ sym (option_or-none (fate_of world.settlements (suc place) kind edit));
   makes = inl record {
-    kept = (
+    kept = kept_noted (side_at world (suc place) kind) (side_at next (suc place) kind) (
       ap (λ (found : List Client). (side_of (client_at found (suc place)) kind).states) clients,
       ap (λ (found : List Client). (side_of (client_at found (suc place)) kind).last_edit) clients,
     );
@@ -175,7 +175,8 @@ affected_step setting event world acting (Some effect) made place kind = by (cas
           (noted_other (eqb (suc acting) (suc place)) (same_kind effect.kind kind) (fate_in effect.notes edit)
           (ne_eqb (suc acting) (suc place) (λ same. differs (omega (arith, same)))));
       makes = inl record {
-        kept = (ap (λ (side : Side). side.states) (others differs), ap (λ (side : Side). side.last_edit) (others differs));
+        kept = kept_noted (side_at world (suc place) kind) (side_at next (suc place) kind)
+            (ap (λ (side : Side). side.states) (others differs), ap (λ (side : Side). side.last_edit) (others differs));
         silent = λ edit. refl;
       };
     }

@@ -17,7 +17,7 @@ use Rattle.sync_model.specs.Settings.{Setting, with_key}
 use Rattle.sync_model.specs.KeyStates.{edited}
 use Rattle.sync_model.specs.Sides.{States, Side, state_at, with_state, side_edited}
 use Rattle.sync_model.specs.Clients.{Client, Effect, side_of, with_side}
-use Rattle.sync_model.specs.Changes.{edit_hash, edit_refusal, edit_taken, edit_effect, change_effect, cut_short, cut_effect, pass_value, set_pass_refusal, set_pass_effect}
+use Rattle.sync_model.specs.Changes.{edit_hash, own_at, edit_refusal, edit_taken, edit_effect, change_effect, cut_short, cut_effect, pass_value, set_pass_refusal, set_pass_effect}
 use Rattle.sync_model.specs.Fates.{fate_of}
 use Rattle.sync_model.specs.Report.{is_void}
 use Rattle.sync_model.specs.Worlds.{World, client_at, with_client_at, affected, acted, pass_at, stepped}
@@ -35,23 +35,24 @@ use Rattle.sync_model.proofs.FateEdits.{or_given}
 -- a side has an edit more than another one
 pub record IsEdited (setting : Setting) (edit : UserEdit) (old new : Side) : Type 0 where
   pub states : new.states ≡ with_state old.states (edit_hash setting edit)
-      (edited (state_at old.states (edit_hash setting edit)) (edit_value edit) (old.last_edit + 1))
+      (edited (state_at old.states (edit_hash setting edit)) (edit_value (own_at old (edit_hash setting edit)) edit) (old.last_edit + 1))
   pub last : new.last_edit ≡ old.last_edit + 1
 
 -- an effect makes an edit
 abbrev EffectEdits : Setting → UserEdit → Client → Option Effect → Type 0
 EffectEdits setting edit client effect = IfSome effect (λ made. IsEdited setting edit (side_of client (edit_kind edit)) (side_of made.client (edit_kind edit)))
 
-side_of-with_side : (client : Client) (kind : Kind) (side : Side) → side_of (with_side client kind side) kind ≡ side
+pub side_of-with_side : (client : Client) (kind : Kind) (side : Side) → side_of (with_side client kind side) kind ≡ side
 side_of-with_side client Nigori side = refl
 side_of-with_side client Preference side = refl
 side_of-with_side client Password side = refl
 
 edit_taken-edits : (setting : Setting) (number : ℕ) (edit : UserEdit) (client : Client) → EffectEdits setting edit client (Some (edit_taken setting number edit client))
 edit_taken-edits setting number edit client =
-    let put : side_of (with_side client (edit_kind edit) (side_edited (side_of client (edit_kind edit)) (edit_hash setting edit) (edit_value edit))) (edit_kind edit)
-    ≡ side_edited (side_of client (edit_kind edit)) (edit_hash setting edit) (edit_value edit)
-    = side_of-with_side client (edit_kind edit) (side_edited (side_of client (edit_kind edit)) (edit_hash setting edit) (edit_value edit))
+    let made : Value = edit_value (own_at (side_of client (edit_kind edit)) (edit_hash setting edit)) edit
+    in let put : side_of (with_side client (edit_kind edit) (side_edited (side_of client (edit_kind edit)) (edit_hash setting edit) made)) (edit_kind edit)
+    ≡ side_edited (side_of client (edit_kind edit)) (edit_hash setting edit) made
+    = side_of-with_side client (edit_kind edit) (side_edited (side_of client (edit_kind edit)) (edit_hash setting edit) made)
     in record { states = ap (λ (side : Side). side.states) put; last = ap (λ (side : Side). side.last_edit) put }
 
 change_effect-edits : (setting : Setting) (number : ℕ) (edit : UserEdit) (client : Client) → EffectEdits setting edit client (change_effect setting number edit client)
@@ -181,16 +182,17 @@ made_stands last number hash value states is within =
     other entry le same = absurd (omega (arith, same, le.within, is))
 
 -- an edit that was just made is not settled
-pub starts_unsettled : (setting : Setting) (event : Event) (world : World) (place number : ℕ) (edit : UserEdit) → NumberFacts world
+pub starts_unsettled : (setting : Setting) (event : Event) (world : World) (place number : ℕ) (edit : UserEdit) (value : Value) → NumberFacts world
+    → value ≡ edit_value (own_at (side_at world (suc place) (edit_kind edit)) (edit_hash setting edit)) edit
     → number ≡ (side_at world (suc place) (edit_kind edit)).last_edit + 1
     → IsEdited setting edit (side_at world (suc place) (edit_kind edit)) (side_at (stepped setting event world) (suc place) (edit_kind edit))
-    → IsUnsettled (suc place) (edit_kind edit) number (edit_hash setting edit) (edit_value edit) (stepped setting event world)
-starts_unsettled setting event world place number edit facts is made = by (stepped_counted setting event world facts place (edit_kind edit)).0
+    → IsUnsettled (suc place) (edit_kind edit) number (edit_hash setting edit) value (stepped setting event world)
+starts_unsettled setting event world place number edit value facts value_is is made = by (stepped_counted setting event world facts place (edit_kind edit)).0
     (stepped_counted setting event world facts place (edit_kind edit)).1
   where
-    says : (other : ℕ) (kind : Kind) (found : ℕ) (value : Value) → found ≤ (side_at world other kind).last_edit
-        → HasValueOf (suc place) (edit_kind edit) number (edit_value edit) other kind found value
-    says other kind found value le place_is kind_is same =
+    says : (other : ℕ) (kind : Kind) (found : ℕ) (other_value : Value) → found ≤ (side_at world other kind).last_edit
+        → HasValueOf (suc place) (edit_kind edit) number value other kind found other_value
+    says other kind found other_value le place_is kind_is same =
         let le_here : found ≤ (side_at world (suc place) (edit_kind edit)).last_edit
         = subst (λ (at : Kind). found ≤ (side_at world (suc place) at).last_edit) kind_is
         (subst (λ (at : ℕ). found ≤ (side_at world at kind).last_edit) place_is le)
@@ -198,14 +200,16 @@ starts_unsettled setting event world place number edit facts is made = by (stepp
 
     by : (step : IsStep setting event world (stepped setting event world) place (edit_kind edit))
         → IsCounted (side_at world (suc place) (edit_kind edit)) (side_at (stepped setting event world) (suc place) (edit_kind edit)) step.noted
-        → IsUnsettled (suc place) (edit_kind edit) number (edit_hash setting edit) (edit_value edit) (stepped setting event world)
+        → IsUnsettled (suc place) (edit_kind edit) number (edit_hash setting edit) value (stepped setting event world)
     by step counted = record {
       counted = omega (arith, is, made.last);
       lacks_fate = step.fates number ∙ or_given (fate_of world.settlements (suc place) (edit_kind edit) number) (step.noted number) None
           (facts.unsettled place (edit_kind edit) number (omega (arith, is))) (counted.settles number (omega (arith, is)));
-      stands = subst (λ (states : States). StandsOn number (edit_hash setting edit) (edit_value edit) states) (sym made.states)
-          (made_stands (side_at world (suc place) (edit_kind edit)).last_edit number (edit_hash setting edit) (edit_value edit)
-          (side_at world (suc place) (edit_kind edit)).states is (facts.keys place (edit_kind edit)));
-      sent = way_weaker (λ other kind found value. found ≤ (side_at world other kind).last_edit) (HasValueOf (suc place) (edit_kind edit) number (edit_value edit))
+      stands = subst (λ (states : States). StandsOn number (edit_hash setting edit) value states) (sym made.states)
+          (subst (λ (own : Value). StandsOn number (edit_hash setting edit) value (with_state (side_at world (suc place) (edit_kind edit)).states (edit_hash setting edit)
+          (edited (state_at (side_at world (suc place) (edit_kind edit)).states (edit_hash setting edit)) own ((side_at world (suc place) (edit_kind edit)).last_edit + 1)))) value_is
+          (made_stands (side_at world (suc place) (edit_kind edit)).last_edit number (edit_hash setting edit) value
+          (side_at world (suc place) (edit_kind edit)).states is (facts.keys place (edit_kind edit))));
+      sent = way_weaker (λ other kind found value. found ≤ (side_at world other kind).last_edit) (HasValueOf (suc place) (edit_kind edit) number value)
           (stepped setting event world) says (stepped-sent setting event world facts);
     }

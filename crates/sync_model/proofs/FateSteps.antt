@@ -1,5 +1,5 @@
 -- What an event makes of a client's keys of a type, and which edits it settles: nothing, an edit, or a turn.
-use Rattle.std.proofs.Common.{◌≡◌, ℕ, ◌+◌, ◌⊎◌, Bool, true, false, cond, List, ◌∷◌, Option, Some, None, refl, sym, ap, ◌∙◌, subst, inl, inr, IfSome}
+use Rattle.std.proofs.Common.{◌≡◌, ℕ, ◌+◌, ◌⊎◌, Bool, true, false, cond, List, [], ◌∷◌, Option, Some, None, refl, sym, ap, ◌∙◌, subst, inl, inr, IfSome}
 use Rattle.client_tags.specs.declared.Kind.{Kind}
 use Rattle.client_tags.specs.declared.Kind.TheVariants.{Nigori, Preference, Password}
 use Rattle.sync_values.specs.declared.edit.Edit.{Edit as UserEdit}
@@ -7,14 +7,15 @@ use Rattle.sync_model.specs.declared.event.Event.{Event}
 use Rattle.sync_model.specs.declared.event.Event.TheVariants.{Turn}
 use Rattle.sync_model.specs.declared.event.EventOutcome.{EventOutcome}
 use Rattle.sync_model.specs.declared.fate.Fate.{Fate}
+use Rattle.sync_model.specs.declared.message.Offer.{Offer}
 use Rattle.sync_model.specs.declared.message.Task.{Task}
 use Rattle.sync_model.specs.Values.{same_kind}
 use Rattle.sync_model.specs.Edits.{edit_kind, edit_value}
 use Rattle.sync_model.specs.Settings.{Setting, decided_by}
 use Rattle.sync_model.specs.KeyStates.{edited}
-use Rattle.sync_model.specs.Sides.{Side, state_at, with_state, after_task, task_notes}
+use Rattle.sync_model.specs.Sides.{Side, state_at, with_state, after_offers, after_task, task_notes}
 use Rattle.sync_model.specs.Clients.{Client, Effect, side_of, with_side, plain_effect}
-use Rattle.sync_model.specs.Changes.{edit_hash, follows}
+use Rattle.sync_model.specs.Changes.{edit_hash, own_at, follows}
 use Rattle.sync_model.specs.Report.{is_void}
 use Rattle.sync_model.specs.Worlds.{World}
 use Rattle.sync_model.specs.Laws.{user_of, edit_by}
@@ -25,9 +26,17 @@ use Rattle.sync_model.proofs.FateKeys.{fate_in}
 abbrev pub IsKept : Side → Side → Type 0
 IsKept old new = (new.states ≡ old.states) × (new.last_edit ≡ old.last_edit)
 
--- an event leaves the keys of a side, and settles none of its edits
+-- a side has the same keys but for some offers that it noted, and the same last number
+abbrev pub IsNoted : Side → Side → Type 0
+IsNoted old new = (offers : List Offer) × (new.states ≡ after_offers old.states offers) × (new.last_edit ≡ old.last_edit)
+
+pub kept_noted : (old new : Side) → IsKept old new → IsNoted old new
+unfolding after_offers
+kept_noted old new kept = ([], kept.0, kept.1)
+
+-- an event leaves the keys of a side but for what was offered, and settles none of its edits
 pub record IsQuiet (old new : Side) (noted : ℕ → Option Fate) : Type 0 where
-  pub kept : IsKept old new
+  pub kept : IsNoted old new
   pub silent : (edit : ℕ) → noted edit ≡ None
 
 -- an event makes an edit on a side, which may follow another one
@@ -38,7 +47,7 @@ pub record IsEditing (setting : Setting) (event : Event) (world : World) (number
   pub makes : edit_by setting world event ≡ Some edit
   pub done : is_void outcome ≡ false
   pub states : new.states ≡ with_state old.states (edit_hash setting edit)
-      (edited (state_at old.states (edit_hash setting edit)) (edit_value edit) (old.last_edit + 1))
+      (edited (state_at old.states (edit_hash setting edit)) (edit_value (own_at old (edit_hash setting edit)) edit) (old.last_edit + 1))
   pub last : new.last_edit ≡ old.last_edit + 1
   pub settles : (other : ℕ) → noted other ≡ fate_in (follows (state_at old.states (edit_hash setting edit)).due (old.last_edit + 1)) other
 
@@ -73,14 +82,22 @@ none_noted : (same : Bool) → cond same nothing nothing ≡ nothing
 none_noted true = refl
 none_noted false = refl
 
--- all sides of a client are kept
+-- all sides of a client are kept, or kept but for some offers
 abbrev pub AreKept : Client → Client → Type 0
 AreKept old new = (kind : Kind) → IsKept (side_of old kind) (side_of new kind)
 
+abbrev pub AreNoted : Client → Client → Type 0
+AreNoted old new = (kind : Kind) → IsNoted (side_of old kind) (side_of new kind)
+
+pub noting_makes : (setting : Setting) (event : Event) (world : World) (number : ℕ) (client new : Client) (outcome : EventOutcome)
+    → AreNoted client new → EffectMakes setting event world number client (Some (plain_effect new outcome))
+noting_makes setting event world number client new outcome kept kind =
+    inl record { kept = kept kind; silent = λ edit. none_noted (same_kind Nigori kind) }
+
 pub plain_makes : (setting : Setting) (event : Event) (world : World) (number : ℕ) (client new : Client) (outcome : EventOutcome)
     → AreKept client new → EffectMakes setting event world number client (Some (plain_effect new outcome))
-plain_makes setting event world number client new outcome kept kind =
-    inl record { kept = kept kind; silent = λ edit. none_noted (same_kind Nigori kind) }
+plain_makes setting event world number client new outcome kept =
+    noting_makes setting event world number client new outcome (λ kind. kept_noted (side_of client kind) (side_of new kind) (kept kind))
 
 -- a client with another side of a type
 side_put : (client : Client) (kind other : Kind) (side : Side)
@@ -107,7 +124,11 @@ makes_by setting event world number client kind side effect is of_kind makes oth
         → Makes setting event world number kind (side_of client kind) side (fate_in effect.notes) effect.outcome
         → Makes setting event world number kind (side_of client kind) new noted effect.outcome
     here noted same new put (inl quiet) = inl record {
-      kept = (ap (λ (found : Side). found.states) put ∙ quiet.kept.0, ap (λ (found : Side). found.last_edit) put ∙ quiet.kept.1);
+      kept = (
+        quiet.kept.0,
+        ap (λ (found : Side). found.states) put ∙ quiet.kept.1,
+        ap (λ (found : Side). found.last_edit) put ∙ quiet.kept.2,
+      );
       silent = λ edit. same edit ∙ quiet.silent edit;
     }
     here noted same new put (inr (inl editing)) = inr (inl record {
@@ -145,7 +166,7 @@ makes_by setting event world number client kind side effect is of_kind makes oth
         put.0 (here (noted_by effect kind) noted_here (side_of effect.client kind)
         (ap (λ (found : Client). side_of found kind) is ∙ subst (λ (found : Kind). side_of (with_side client kind side) found ≡ side) (sym put.0) put.1) makes)
     by (inr put) = inl record {
-      kept = (
+      kept = kept_noted (side_of client other) (side_of effect.client other) (
         ap (λ (found : Client). (side_of found other).states) is ∙ ap (λ (found : Side). found.states) put.1,
         ap (λ (found : Client). (side_of found other).last_edit) is ∙ ap (λ (found : Side). found.last_edit) put.1,
       );

@@ -16,7 +16,7 @@ use Rattle.sync_model.specs.declared.state.KeyState.{KeyState}
 use Rattle.sync_model.specs.Edits.{edit_kind, edit_value}
 use Rattle.sync_model.specs.Settings.{Setting, decided_by}
 use Rattle.sync_model.specs.Conflicts.{choice_of}
-use Rattle.sync_model.specs.KeyStates.{resolution_of}
+use Rattle.sync_model.specs.KeyStates.{resolution_of, is_echo}
 use Rattle.sync_model.specs.Changes.{edit_hash}
 use Rattle.sync_model.specs.Fates.{fate_of}
 use Rattle.sync_model.specs.Worlds.{stepped, world_of}
@@ -44,6 +44,7 @@ pub followed_true : (setting : Setting) (schedule : Schedule) (place number : �
 followed_true setting schedule place number edit before later event noted splits editing same within = record {
   greater = omega (arith, within);
   next = editing.edit;
+  next_value = edit_value (state_of_edit setting (world_before setting schedule before) (suc place) editing.edit).own editing.edit;
   made = record {
     before = before;
     event = event;
@@ -53,25 +54,26 @@ followed_true setting schedule place number edit before later event noted splits
     makes = editing.makes;
     counts = ap (λ (kind : Kind). (side_at (world_before setting schedule before) (suc place) kind).last_edit + 1) (sym editing.of_kind);
     done = editing.done;
+    is_value = refl;
   };
   kind = editing.of_kind;
   hash = same;
 }
 
 -- the write of a version of the key of an edit stays so
-of_edit_to_end : (setting : Setting) (schedule : Schedule) (before later : List Event) (version : ℕ) (edit : Edit)
+of_edit_to_end : (setting : Setting) (schedule : Schedule) (before later : List Event) (version : ℕ) (edit : Edit) (value : Value)
     → schedule.events ≡ before ++ later
-    → IsWriteOf (world_before setting schedule before).history (edit_key setting edit) version (edit_value edit)
-    → IsOfEdit setting (world_of setting schedule) version edit
-of_edit_to_end setting schedule before later version edit splits is =
-    let whole : IsWriteOf (world_of setting schedule).history (edit_key setting edit) version (edit_value edit)
-    = stays_to_end (λ history outcomes. IsWriteOf history (edit_key setting edit) version (edit_value edit)) record {
-      longer = λ history outcomes next. IsWriteOf-longer history next (edit_key setting edit) version (edit_value edit);
+    → IsWriteOf (world_before setting schedule before).history (edit_key setting edit) version value
+    → IsOfEdit setting (world_of setting schedule) version edit value
+of_edit_to_end setting schedule before later version edit value splits is =
+    let whole : IsWriteOf (world_of setting schedule).history (edit_key setting edit) version value
+    = stays_to_end (λ history outcomes. IsWriteOf history (edit_key setting edit) version value) record {
+      longer = λ history outcomes next. IsWriteOf-longer history next (edit_key setting edit) version value;
       later = λ history outcomes outcome is. is;
     } setting schedule before later splits is
     in record {
       of_key = record { write = whole.write; is_write = whole.is_write; key = whole.has_key };
-      value = whole.has_value;
+      is_value = whole.has_value;
     }
 
 sent_to_end : (setting : Setting) (schedule : Schedule) (before later : List Event) (client version : ℕ)
@@ -102,16 +104,16 @@ write_as history kind one hash version found value same equal is = record {
 }
 
 -- an acknowledgement of what the client sent
-pub acked_true : (setting : Setting) (schedule : Schedule) (place number : ℕ) (edit : Edit) (before later : List Event) (fate : Fate)
+pub acked_true : (setting : Setting) (schedule : Schedule) (place number : ℕ) (edit : Edit) (value : Value) (before later : List Event) (fate : Fate)
     → schedule.events ≡ before ++ later
     → IsAckedBy (λ ack. IsTrueAck (world_before setting schedule before).history (edit_kind edit) ack
-    × IsSaidOfAck (HasValueOf (suc place) (edit_kind edit) number (edit_value edit) (suc place)) (edit_kind edit) (suc place) (world_before setting schedule before).outcomes ack)
+    × IsSaidOfAck (HasValueOf (suc place) (edit_kind edit) number value (suc place)) (edit_kind edit) (suc place) (world_before setting schedule before).outcomes ack)
     number (edit_hash setting edit) fate
-    → IsTrueFate setting schedule (suc place) number edit (Some fate)
-acked_true setting schedule place number edit before later fate splits acked =
-    subst (λ (found : Fate). IsTrueFate setting schedule (suc place) number edit (Some found)) (sym acked.is) (
-      of_edit_to_end setting schedule before later acked.ack.version edit splits
-          (write_as (world_before setting schedule before).history (edit_kind edit) acked.ack.hash (edit_hash setting edit) acked.ack.version acked.ack.value (edit_value edit)
+    → IsTrueFate setting schedule (suc place) number edit value (Some fate)
+acked_true setting schedule place number edit value before later fate splits acked =
+    subst (λ (found : Fate). IsTrueFate setting schedule (suc place) number edit value (Some found)) (sym acked.is) (
+      of_edit_to_end setting schedule before later acked.ack.version edit value splits
+          (write_as (world_before setting schedule before).history (edit_kind edit) acked.ack.hash (edit_hash setting edit) acked.ack.version acked.ack.value value
           acked.same (acked.holds.1.0 refl refl acked.numbered) acked.holds.0),
       sent_to_end setting schedule before later (suc place) acked.ack.version splits acked.holds.1.1,
     )
@@ -147,15 +149,15 @@ row_settles setting schedule place number edit before later fate Does splits sto
     }
 
 -- an update by which a turn settles an edit
-pub met_true : (setting : Setting) (schedule : Schedule) (place number : ℕ) (edit : Edit) (before later : List Event) (fate : Fate)
+pub met_true : (setting : Setting) (schedule : Schedule) (place number : ℕ) (edit : Edit) (value : Value) (before later : List Event) (fate : Fate)
     → schedule.events ≡ before ++ Turn (suc place) (edit_kind edit) ∷ later
     → fate_of (world_before setting schedule before).settlements (suc place) (edit_kind edit) number ≡ None
     → fate_of (stepped setting (Turn (suc place) (edit_kind edit)) (world_before setting schedule before)).settlements (suc place) (edit_kind edit) number ≡ Some fate
-    → StandsOn number (edit_hash setting edit) (edit_value edit) (side_at (world_before setting schedule before) (suc place) (edit_kind edit)).states
+    → StandsOn number (edit_hash setting edit) value (side_at (world_before setting schedule before) (suc place) (edit_kind edit)).states
     → IsSettledBy (IsTrueUpdate (world_before setting schedule before).history (edit_kind edit)) (decided_by setting (edit_kind edit)) (edit_hash setting edit)
     (side_at (world_before setting schedule before) (suc place) (edit_kind edit)).states fate
-    → IsTrueFate setting schedule (suc place) number edit (Some fate)
-met_true setting schedule place number edit before later fate splits stood settles stands met =
+    → IsTrueFate setting schedule (suc place) number edit value (Some fate)
+met_true setting schedule place number edit value before later fate splits stood settles stands met =
     by (fate_cases met.update.version (resolution_of (decided_by setting (edit_kind edit)) state met.update)
     (resolution_of (decided_by setting (edit_kind edit)) state met.update).choice fate met.met)
   where
@@ -167,16 +169,17 @@ met_true setting schedule place number edit before later fate splits stood settl
         × (fate ≡ Taken met.update.version (resolution_of (decided_by setting (edit_kind edit)) state met.update).row))
         ⊎ ((value : Value) × ((resolution_of (decided_by setting (edit_kind edit)) state met.update).choice ≡ MergedInto value)
         × (fate ≡ Merged met.update.version (resolution_of (decided_by setting (edit_kind edit)) state met.update).row)))
-        → IsTrueFate setting schedule (suc place) number edit (Some fate)
-    by (inl same) = subst (λ (found : Fate). IsTrueFate setting schedule (suc place) number edit (Some found)) (sym same.1)
-        (of_edit_to_end setting schedule before (Turn (suc place) (edit_kind edit) ∷ later) met.update.version edit splits
-        (write_as (world_before setting schedule before).history (edit_kind edit) met.update.hash (edit_hash setting edit) met.update.version met.update.value (edit_value edit)
-        met.same (sym (same_row state.base state.own met.update.value (decided_by setting (edit_kind edit) state.own met.update.value) same.0) ∙ stands.own) met.holds))
-    by (inr (inl taken)) = subst (λ (found : Fate). IsTrueFate setting schedule (suc place) number edit (Some found)) (sym taken.1)
+        → IsTrueFate setting schedule (suc place) number edit value (Some fate)
+    by (inl same) = subst (λ (found : Fate). IsTrueFate setting schedule (suc place) number edit value (Some found)) (sym same.1)
+        (of_edit_to_end setting schedule before (Turn (suc place) (edit_kind edit) ∷ later) met.update.version edit value splits
+        (write_as (world_before setting schedule before).history (edit_kind edit) met.update.hash (edit_hash setting edit) met.update.version met.update.value value
+        met.same (sym (same_row (is_echo state met.update.value) state.base state.own met.update.value
+        (decided_by setting (edit_kind edit) state.own met.update.value) same.0) ∙ stands.own) met.holds))
+    by (inr (inl taken)) = subst (λ (found : Fate). IsTrueFate setting schedule (suc place) number edit value (Some found)) (sym taken.1)
         (subst (λ (found : Fate). IsSettledByRow setting schedule (suc place) number edit met.update.version
         (resolution_of (decided_by setting (edit_kind edit)) state met.update).row found IsTaking) taken.1
         (row_settles setting schedule place number edit before later fate IsTaking splits stood settles stands.due met taken.0))
-    by (inr (inr merged)) = subst (λ (found : Fate). IsTrueFate setting schedule (suc place) number edit (Some found)) (sym merged.2)
+    by (inr (inr merged)) = subst (λ (found : Fate). IsTrueFate setting schedule (suc place) number edit value (Some found)) (sym merged.2)
         (subst (λ (found : Fate). IsSettledByRow setting schedule (suc place) number edit met.update.version
         (resolution_of (decided_by setting (edit_kind edit)) state met.update).row found IsMerging) merged.2
         (row_settles setting schedule place number edit before later fate IsMerging splits stood settles stands.due met (merged.0, merged.1)))

@@ -14,7 +14,7 @@ use Rattle.sync_model.specs.declared.message.Content.{Content}
 use Rattle.sync_model.specs.declared.message.Entry.{Entry}
 use Rattle.sync_model.specs.declared.message.Task.{Task}
 use Rattle.sync_model.specs.declared.message.Task.TheVariants.{Batch as Updating, Acks}
-use Rattle.sync_model.specs.Edits.{edit_kind, edit_value}
+use Rattle.sync_model.specs.Edits.{edit_kind}
 use Rattle.sync_model.specs.Settings.{Setting, decided_by}
 use Rattle.sync_model.specs.Sides.{States, Side, after_task, task_notes}
 use Rattle.sync_model.specs.Changes.{edit_hash}
@@ -24,6 +24,7 @@ use Rattle.sync_model.specs.Laws.{world_before, last_outcome, IsTrueFate}
 use Rattle.sync_model.specs.Facts.{IsTrueUpdate, IsTrueAck, IsTrueTask, AreChained, WorldFacts}
 use Rattle.sync_model.specs.FateFacts.{Saying, IsSaidOfAck, IsSaidOfTask, AreNumbered, side_at, NumberFacts, StandsOn, HasValueOf, IsUnsettled}
 use Rattle.sync_model.proofs.FateKeys.{fate_in}
+use Rattle.sync_model.proofs.NotedKeys.{noted_stands}
 use Rattle.sync_model.proofs.FateUpdates.{StillStands, IsSettledBy, updates_walk}
 use Rattle.sync_model.proofs.FateAcks.{IsAckedBy, acks_walk}
 use Rattle.sync_model.proofs.FateSteps.{IsTurning, Makes}
@@ -67,18 +68,18 @@ task_walk history kind client outcomes Says decided mark edit last hash value si
     by (inr met) = inr (met.0, met.1, inr met.2)
 
 -- a turn of the same side
-turning_next : (setting : Setting) (schedule : Schedule) (place number : ℕ) (edit : Edit) (before later : List Event) (event : Event)
+turning_next : (setting : Setting) (schedule : Schedule) (place number : ℕ) (edit : Edit) (value : Value) (before later : List Event) (event : Event)
     → schedule.events ≡ before ++ event ∷ later → 0 < number
     → NumberFacts (world_before setting schedule before) → WorldFacts (world_before setting schedule before)
-    → IsUnsettled (suc place) (edit_kind edit) number (edit_hash setting edit) (edit_value edit) (world_before setting schedule before)
+    → IsUnsettled (suc place) (edit_kind edit) number (edit_hash setting edit) value (world_before setting schedule before)
     → (step : IsStep setting event (world_before setting schedule before) (stepped setting event (world_before setting schedule before)) place (edit_kind edit))
     → IsCounted (side_at (world_before setting schedule before) (suc place) (edit_kind edit))
     (side_at (stepped setting event (world_before setting schedule before)) (suc place) (edit_kind edit)) step.noted
     → IsTurning setting event (suc place) (edit_kind edit)
     (side_at (world_before setting schedule before) (suc place) (edit_kind edit))
     (side_at (stepped setting event (world_before setting schedule before)) (suc place) (edit_kind edit)) step.noted
-    → Next setting schedule place number edit (stepped setting event (world_before setting schedule before))
-turning_next setting schedule place number edit before later event splits some facts known unsettled step counted turning =
+    → Next setting schedule place number edit value (stepped setting event (world_before setting schedule before))
+turning_next setting schedule place number edit value before later event splits some facts known unsettled step counted turning =
     by (task_walk world.history kind (suc place) world.outcomes (HasValueOf (suc place) kind number value (suc place)) (decided_by setting kind)
     old.mark number old.last_edit hash value (record old { mailbox = turning.tasks }) turning.task some is_true said (facts.keys place kind) unsettled.stands)
   where
@@ -90,9 +91,6 @@ turning_next setting schedule place number edit before later event splits some f
 
     hash : List ℕ
     hash = edit_hash setting edit
-
-    value : Value
-    value = edit_value edit
 
     old : Side
     old = side_at (world_before setting schedule before) (suc place) (edit_kind edit)
@@ -115,28 +113,28 @@ turning_next setting schedule place number edit before later event splits some f
 
     is_so : (fate : Fate) → fate_of (stepped setting event (world_before setting schedule before)).settlements (suc place) kind number ≡ Some fate
         → Meets world.history kind (suc place) world.outcomes (HasValueOf (suc place) kind number value (suc place)) (decided_by setting kind) number hash old.states fate
-        → IsTrueFate setting schedule (suc place) number edit (Some fate)
-    is_so fate settled (inl met) = met_true setting schedule place number edit before later fate splits_turn unsettled.lacks_fate
+        → IsTrueFate setting schedule (suc place) number edit value (Some fate)
+    is_so fate settled (inl met) = met_true setting schedule place number edit value before later fate splits_turn unsettled.lacks_fate
         (subst (λ (found : Event). fate_of (stepped setting found (world_before setting schedule before)).settlements (suc place) kind number ≡ Some fate) turning.is settled)
         unsettled.stands met
-    is_so fate settled (inr acked) = acked_true setting schedule place number edit before (event ∷ later) fate splits acked
+    is_so fate settled (inr acked) = acked_true setting schedule place number edit value before (event ∷ later) fate splits acked
 
     by : StillStands number hash value (after_task (decided_by setting kind) (record old { mailbox = turning.tasks }) turning.task).states
         (task_notes (decided_by setting kind) old.states turning.task)
         ⊎ ((fate : Fate) × (fate_in (task_notes (decided_by setting kind) old.states turning.task) number ≡ Some fate)
         × Meets world.history kind (suc place) world.outcomes (HasValueOf (suc place) kind number value (suc place)) (decided_by setting kind) number hash old.states fate)
-        → Next setting schedule place number edit (stepped setting event (world_before setting schedule before))
+        → Next setting schedule place number edit value (stepped setting event (world_before setting schedule before))
     by (inl still) = inl (left setting event world place kind number hash value facts unsettled step counted
         (subst (λ (states : States). StandsOn number hash value states) (sym turning.states) still.0) (turning.settles number ∙ still.1))
     by (inr met) = inr (met.0, settles met.0 met.1, is_so met.0 (settles met.0 met.1) met.2)
 
 -- an event leaves an edit that is not settled, or settles it as its fate says
-pub edit_next : (setting : Setting) (schedule : Schedule) (place number : ℕ) (edit : Edit) (before later : List Event) (event : Event)
+pub edit_next : (setting : Setting) (schedule : Schedule) (place number : ℕ) (edit : Edit) (value : Value) (before later : List Event) (event : Event)
     → schedule.events ≡ before ++ event ∷ later → 0 < number
     → NumberFacts (world_before setting schedule before) → WorldFacts (world_before setting schedule before)
-    → IsUnsettled (suc place) (edit_kind edit) number (edit_hash setting edit) (edit_value edit) (world_before setting schedule before)
-    → Next setting schedule place number edit (stepped setting event (world_before setting schedule before))
-edit_next setting schedule place number edit before later event splits some facts known unsettled =
+    → IsUnsettled (suc place) (edit_kind edit) number (edit_hash setting edit) value (world_before setting schedule before)
+    → Next setting schedule place number edit value (stepped setting event (world_before setting schedule before))
+edit_next setting schedule place number edit value before later event splits some facts known unsettled =
     by (stepped_counted setting event (world_before setting schedule before) facts place (edit_kind edit)).0
     (stepped_counted setting event (world_before setting schedule before) facts place (edit_kind edit)).1
     (stepped_counted setting event (world_before setting schedule before) facts place (edit_kind edit)).0.makes
@@ -148,9 +146,11 @@ edit_next setting schedule place number edit before later event splits some fact
         (side_at (world_before setting schedule before) (suc place) (edit_kind edit))
         (side_at (stepped setting event (world_before setting schedule before)) (suc place) (edit_kind edit)) step.noted
         (last_outcome (stepped setting event (world_before setting schedule before)))
-        → Next setting schedule place number edit (stepped setting event (world_before setting schedule before))
-    by step counted (inl quiet) = inl (left setting event (world_before setting schedule before) place (edit_kind edit) number (edit_hash setting edit) (edit_value edit)
+        → Next setting schedule place number edit value (stepped setting event (world_before setting schedule before))
+    by step counted (inl quiet) = inl (left setting event (world_before setting schedule before) place (edit_kind edit) number (edit_hash setting edit) value
         facts unsettled step counted
-        (subst (λ (states : States). StandsOn number (edit_hash setting edit) (edit_value edit) states) (sym quiet.kept.0) unsettled.stands) (quiet.silent number))
-    by step counted (inr (inl editing)) = editing_next setting schedule place number edit before later event splits some facts unsettled step counted editing
-    by step counted (inr (inr turning)) = turning_next setting schedule place number edit before later event splits some facts known unsettled step counted turning
+        (subst (λ (states : States). StandsOn number (edit_hash setting edit) value states) (sym quiet.kept.1)
+        (noted_stands number (edit_hash setting edit) value (side_at (world_before setting schedule before) (suc place) (edit_kind edit)).states quiet.kept.0
+        some unsettled.stands)) (quiet.silent number))
+    by step counted (inr (inl editing)) = editing_next setting schedule place number edit value before later event splits some facts unsettled step counted editing
+    by step counted (inr (inr turning)) = turning_next setting schedule place number edit value before later event splits some facts known unsettled step counted turning

@@ -19,7 +19,7 @@ use Rattle.sync_model.specs.declared.conflict.Choice.TheVariants.{Same, Remote, 
 use Rattle.sync_model.specs.declared.conflict.Decision.{Decision}
 use Rattle.sync_model.specs.declared.conflict.Decision.TheVariants.{Remote as TakeRemote, Local as KeepLocal, Merged as Merge}
 use Rattle.sync_model.specs.declared.conflict.Resolution.{Resolution}
-use Rattle.sync_model.specs.declared.conflict.Row.TheVariants.{C1, C2, C3, C4, C5, C6}
+use Rattle.sync_model.specs.declared.conflict.Row.TheVariants.{C0, C1, C2, C3, C4, C5, C6}
 use Rattle.sync_model.specs.declared.fate.Fate.{Fate}
 use Rattle.sync_model.specs.declared.fate.Fate.TheVariants.{Matched, Taken, Merged}
 use Rattle.sync_model.specs.Values.{same_pass_kind, same_nigori_key, same_preference, same_login, same_nigori, same_value, is_absent}
@@ -58,9 +58,11 @@ same_pass_kind-true Vault Custom is = absurd (false≢true is)
 
 same_preference-true : (a b : Pref) → same_preference a b ≡ true → a ≡ b
 same_preference-true a b is =
-    let parts : (bytes_eq a.name b.name ≡ true) × (bytes_eq a.value b.value ≡ true) = and_parts _ _ is
-    in ap (λ (name : List ℕ). record a { name = name }) (bytes_same a.name b.name parts.0)
-    ∙ ap (λ (value : List ℕ). record b { value = value }) (bytes_same a.value b.value parts.1)
+    let parts : ((bytes_eq a.name b.name && bytes_eq a.value b.value) ≡ true) × (bytes_eq a.extra b.extra ≡ true) = and_parts _ _ is
+    in let more : (bytes_eq a.name b.name ≡ true) × (bytes_eq a.value b.value ≡ true) = and_parts _ _ parts.0
+    in ap (λ (name : List ℕ). record a { name = name }) (bytes_same a.name b.name more.0)
+    ∙ ap (λ (value : List ℕ). record a { name = b.name; value = value }) (bytes_same a.value b.value more.1)
+    ∙ ap (λ (extra : List ℕ). record b { extra = extra }) (bytes_same a.extra b.extra parts.1)
 
 same_nigori_key-true : (a b : NigoriKey) → same_nigori_key a b ≡ true → a ≡ b
 same_nigori_key-true a b is =
@@ -70,7 +72,7 @@ same_nigori_key-true a b is =
     ∙ ap (λ (enc : List ℕ). record a { user = b.user; enc = enc }) (bytes_same a.enc b.enc more.1)
     ∙ ap (λ (mac : List ℕ). record b { mac = mac }) (bytes_same a.mac b.mac parts.1)
 
-same_nigori_key-refl : (a : NigoriKey) → same_nigori_key a a ≡ true
+pub same_nigori_key-refl : (a : NigoriKey) → same_nigori_key a a ≡ true
 same_nigori_key-refl a =
     and_from _ _ (and_from _ _ ((bytes_eq-Decides a.user a.user).1 refl) ((bytes_eq-Decides a.enc a.enc).1 refl)) ((bytes_eq-Decides a.mac a.mac).1 refl)
 
@@ -90,8 +92,11 @@ same_nigori-true a b is =
 
 same_login-true : (a b : Login) → same_login a b ≡ true → a ≡ b
 same_login-true a b is =
-    let g : ((bytes_eq a.origin b.origin && bytes_eq a.user_element b.user_element && bytes_eq a.user_value b.user_value
-    && bytes_eq a.pass_element b.pass_element && bytes_eq a.realm b.realm && bytes_eq a.secret b.secret) ≡ true) × (int_eq a.created b.created ≡ true) = and_parts _ _ is
+    let h : ((bytes_eq a.origin b.origin && bytes_eq a.user_element b.user_element && bytes_eq a.user_value b.user_value
+    && bytes_eq a.pass_element b.pass_element && bytes_eq a.realm b.realm && bytes_eq a.secret b.secret && int_eq a.created b.created) ≡ true)
+    × (bytes_eq a.extra b.extra ≡ true) = and_parts _ _ is
+    in let g : ((bytes_eq a.origin b.origin && bytes_eq a.user_element b.user_element && bytes_eq a.user_value b.user_value
+    && bytes_eq a.pass_element b.pass_element && bytes_eq a.realm b.realm && bytes_eq a.secret b.secret) ≡ true) × (int_eq a.created b.created ≡ true) = and_parts _ _ h.0
     in let f : ((bytes_eq a.origin b.origin && bytes_eq a.user_element b.user_element && bytes_eq a.user_value b.user_value
     && bytes_eq a.pass_element b.pass_element && bytes_eq a.realm b.realm) ≡ true) × (bytes_eq a.secret b.secret ≡ true) = and_parts _ _ g.0
     in let e : ((bytes_eq a.origin b.origin && bytes_eq a.user_element b.user_element && bytes_eq a.user_value b.user_value
@@ -103,10 +108,11 @@ same_login-true a b is =
     in ap (λ (x : List ℕ). record a { origin = x }) (bytes_same a.origin b.origin p.0)
     ∙ ap (λ (x : List ℕ). record a { origin = b.origin; user_element = x }) (bytes_same a.user_element b.user_element p.1)
     ∙ ap (λ (x : List ℕ). record a { origin = b.origin; user_element = b.user_element; user_value = x }) (bytes_same a.user_value b.user_value c.1)
-    ∙ ap (λ (x : List ℕ). record b { pass_element = x; realm = a.realm; secret = a.secret; created = a.created }) (bytes_same a.pass_element b.pass_element d.1)
-    ∙ ap (λ (x : List ℕ). record b { realm = x; secret = a.secret; created = a.created }) (bytes_same a.realm b.realm e.1)
-    ∙ ap (λ (x : List ℕ). record b { secret = x; created = a.created }) (bytes_same a.secret b.secret f.1)
-    ∙ ap (λ x. record b { created = x }) ((Decides-int_eq a.created b.created).0 g.1)
+    ∙ ap (λ (x : List ℕ). record b { pass_element = x; realm = a.realm; secret = a.secret; created = a.created; extra = a.extra }) (bytes_same a.pass_element b.pass_element d.1)
+    ∙ ap (λ (x : List ℕ). record b { realm = x; secret = a.secret; created = a.created; extra = a.extra }) (bytes_same a.realm b.realm e.1)
+    ∙ ap (λ (x : List ℕ). record b { secret = x; created = a.created; extra = a.extra }) (bytes_same a.secret b.secret f.1)
+    ∙ ap (λ x. record b { created = x; extra = a.extra }) ((Decides-int_eq a.created b.created).0 g.1)
+    ∙ ap (λ (x : List ℕ). record b { extra = x }) (bytes_same a.extra b.extra h.1)
 
 -- two values that are one are equal
 same_value-true : (a b : Value) → same_value a b ≡ true → a ≡ b
@@ -140,22 +146,23 @@ by_decision TakeRemote = refl
 by_decision KeepLocal = refl
 by_decision (Merge value) = refl
 
-other_rows : (first second third fourth : Bool) (decision : Decision)
-    → is_same (choice_of (cond first C2 (cond second C3 (cond third C4 (cond fourth C5 C6)))) decision) ≡ false
-other_rows true second third fourth decision = refl
-other_rows false true third fourth decision = refl
-other_rows false false true fourth decision = refl
-other_rows false false false true decision = refl
-other_rows false false false false decision = by_decision decision
+other_rows : (echo first second third fourth : Bool) (decision : Decision)
+    → is_same (choice_of (cond echo C0 (cond first C2 (cond second C3 (cond third C4 (cond fourth C5 C6))))) decision) ≡ false
+other_rows true first second third fourth decision = refl
+other_rows false true second third fourth decision = refl
+other_rows false false true third fourth decision = refl
+other_rows false false false true fourth decision = refl
+other_rows false false false false true decision = refl
+other_rows false false false false false decision = by_decision decision
 
-pub same_row : (base own remote : Value) (decision : Decision) → choice_of (row_of base own remote) decision ≡ Same → own ≡ remote
+pub same_row : (echo : Bool) (base own remote : Value) (decision : Decision) → choice_of (row_of echo base own remote) decision ≡ Same → own ≡ remote
 unfolding row_of
-same_row base own remote decision = by (same_value own remote) refl
+same_row echo base own remote decision = by (same_value own remote) refl
   where
-    by : (same : Bool) → same_value own remote ≡ same → choice_of (cond same C1 (cond (is_absent own && not (is_absent remote)) C2
-        (cond (same_value own base) C3 (cond (same_value remote base) C4 (cond (is_absent remote) C5 C6))))) decision ≡ Same → own ≡ remote
+    by : (same : Bool) → same_value own remote ≡ same → choice_of (cond same C1 (cond echo C0 (cond (is_absent own && not (is_absent remote)) C2
+        (cond (same_value own base) C3 (cond (same_value remote base) C4 (cond (is_absent remote) C5 C6)))))) decision ≡ Same → own ≡ remote
     by true is chosen = same_value-true own remote is
-    by false is chosen = absurd (false≢true (sym (other_rows (is_absent own && not (is_absent remote)) (same_value own base) (same_value remote base) (is_absent remote) decision)
+    by false is chosen = absurd (false≢true (sym (other_rows echo (is_absent own && not (is_absent remote)) (same_value own base) (same_value remote base) (is_absent remote) decision)
         ∙ ap is_same chosen))
 
 -- the fate that a row gives, by what it does

@@ -137,7 +137,7 @@ way_weaker Says Weakly world weaker said = record {
 }
 
 -- a client with another side of a type
-with_side-rest : (client : Client) (kind : Kind) (side : Side)
+pub with_side-rest : (client : Client) (kind : Kind) (side : Side)
     → ((with_side client kind side).held ≡ client.held) × ((with_side client kind side).outstanding ≡ client.outstanding)
 with_side-rest client Nigori side = (refl, refl)
 with_side-rest client Preference side = (refl, refl)

@@ -118,7 +118,7 @@ by_tests next version false true false is = same_Some next version (ap version_i
 by_tests next version false false over is = absurd (none-some version (ap version_in is))
 
 -- an entry is stored as the next version
-answer_to-next : {C : Type 0} (is_invalid : Entry C → Bool) (history : List (Entry C)) (entry : Entry C) (version : ℕ)
+pub answer_to-next : {C : Type 0} (is_invalid : Entry C → Bool) (history : List (Entry C)) (entry : Entry C) (version : ℕ)
     → answer_to is_invalid history entry ≡ Success version → length history + 1 ≡ version
 unfolding answer_to
 answer_to-next is_invalid history entry version is =

@@ -13,13 +13,14 @@ use Rattle.sync_model.specs.declared.message.Task.{Task}
 use Rattle.sync_model.specs.declared.message.Task.TheVariants.{Batch as Updating, Acks}
 use Rattle.sync_model.specs.declared.message.Update.{Update}
 use Rattle.sync_model.specs.declared.state.KeyState.{KeyState}
+use Rattle.sync_model.specs.declared.state.Offered.{Offered}
 use Rattle.sync_model.specs.Values.{keys_in, has_names}
 use Rattle.sync_model.specs.Settings.{Setting, nigori_hash, names_of, with_keys}
 use Rattle.sync_model.specs.Sides.{States, Side, state_at}
 use Rattle.sync_model.specs.Clients.{new_client, bag_with}
+use Rattle.sync_model.specs.Outcomes.{entries_sent}
 use Rattle.sync_model.specs.Worlds.{outcome_at}
-use Rattle.sync_model.specs.Deliveries.{entries_sent}
-use Rattle.sync_model.specs.KeyFacts.{Each, HaveNames, names_in, profile_at, KeepsKeys, IsKnown, IsTold, UpdateTells, AckTells, TaskTells, LetterTells, PendingTells, names_sent, names_awaited, names_in_letter, names_in_tasks, under_way, names_updated, IsOpened, StateHasKeys, IsOneEntity, IsRequested, ClientHasKeys, HasKeys}
+use Rattle.sync_model.specs.KeyFacts.{Each, HaveNames, HaveOffered, names_in, profile_at, KeepsKeys, IsKnown, IsTold, UpdateTells, AckTells, TaskTells, LetterTells, PendingTells, names_sent, names_awaited, names_in_letter, names_in_tasks, under_way, names_updated, IsOpened, StateHasKeys, IsOneEntity, IsRequested, ClientHasKeys, HasKeys}
 use Rattle.sync_model.proofs.KeyNames.{has_names-self, has_names-through, has_names-both, has_names-parts, with_keys-keeps, with_keys-has}
 use Rattle.sync_model.proofs.KeyHistory.{GoesOn, GoesOn-self, EachKeepsKeys-later, profile_at-kept}
 
@@ -109,6 +110,15 @@ pub tasks-opened : (setting : Setting) (bag more : List NigoriKey) (tasks : List
 tasks-opened setting bag more [] grows opened = tt
 tasks-opened setting bag more (task ∷ tasks) grows opened = (task-opened setting bag more task grows opened.0, tasks-opened setting bag more tasks grows opened.1)
 
+-- keys that have others have what these have
+pub offered-through : (setting : Setting) (keys more : List NigoriKey) (offered : List Offered) → HaveNames setting more (names_of setting keys)
+    → HaveOffered setting keys offered → HaveOffered setting more offered
+offered-through setting keys more [] grows have = tt
+offered-through setting keys more (pair ∷ offered) grows have = (
+  has_names-through (names_of setting more) (names_of setting keys) (names_in setting pair.value) grows have.0,
+  offered-through setting keys more offered grows have.1,
+)
+
 -- a state has its keys where the history goes on, the bag grows, and less is under way
 pub StateHasKeys-later : (setting : Setting) (old new : List (Entry Content)) (bag more : List NigoriKey) (way less : List (List ℕ)) (state : KeyState)
     → GoesOn setting old new → HaveNames setting more (names_of setting bag) → Has way less
@@ -122,6 +132,8 @@ StateHasKeys-later setting old new bag more way less state on grows falls has = 
     has_way = has_names-through (names_in setting state.own) way less waits.has_way falls;
     had = has_names-through (names_of setting more) (names_of setting bag) (names_in setting state.own) grows waits.had;
   };
+  offered = offered-through setting bag more state.offered grows has.offered;
+  waits_offered = has.waits_offered;
 }
 
 -- an earlier event's outcome stays
@@ -232,6 +244,8 @@ new_client-HasKeys setting history outcomes = record {
     known = record { within = omega arith; is = sym (profile_at-none history) };
     had = refl;
     waits = λ due. absurd (false≢true due);
+    offered = tt;
+    waits_offered = λ due. tt;
   };
   way = refl;
   holds = tt;

@@ -20,11 +20,11 @@ use Rattle.sync_model.specs.Sides.{Side, state_at, restarted_side, side_edited}
 use Rattle.sync_model.specs.Clients.{Client, with_side, restarted, Effect, plain_effect}
 use Rattle.sync_model.specs.Sending.{lose_effect}
 use Rattle.sync_model.specs.Changes.{edit_refusal, edit_taken, edit_effect, change_effect, cut_short, cut_effect, crash_effect, asked_for, pass_value, set_pass_refusal, set_pass_effect, keys_of_update, give_pass_refusal, give_pass_effect}
-use Rattle.sync_model.specs.Deliveries.{entries_sent}
-use Rattle.sync_model.specs.KeyFacts.{Each, HaveNames, names_in, KeepsKeys, writes_given, IsGiven, names_sent, names_in_letter, names_in_tasks, under_way, StateHasKeys, HasKeys}
+use Rattle.sync_model.specs.Outcomes.{entries_sent, writes_given}
+use Rattle.sync_model.specs.KeyFacts.{Each, HaveNames, names_in, KeepsKeys, IsGiven, names_sent, names_in_letter, names_in_tasks, under_way, StateHasKeys, HasKeys}
 use Rattle.sync_model.proofs.KeyNames.{has_names-self, has_names-through, with_key-keeps, with_key-has, with_keys-keeps}
 use Rattle.sync_model.proofs.KeyHistory.{GoesOn-self}
-use Rattle.sync_model.proofs.KeyClients.{has_four, way_parts, ClientHasKeys-later, ClientHasKeys-less, ClientHasKeys-more}
+use Rattle.sync_model.proofs.KeyClients.{has_four, offered-through, way_parts, ClientHasKeys-later, ClientHasKeys-less, ClientHasKeys-more}
 use Rattle.sync_model.proofs.KeyTurns.{with_state-HoldsOfEntity, StatesHaveKeys}
 
 -- after an effect its client has its keys, and what it requested keeps them
@@ -197,6 +197,8 @@ chosen-StateHasKeys setting history bag way state pass number had has =
         has_way = has_names-through (names_of setting more) (names_of setting bag) way grows had;
         had = has_names-self (names_of setting more);
       };
+      offered = offered-through setting bag more state.offered grows has.offered;
+      waits_offered = λ due. offered-through setting bag more state.offered grows has.offered;
     }
 
 -- a client whose user chooses a passphrase

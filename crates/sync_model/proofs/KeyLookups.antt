@@ -9,13 +9,13 @@ use Rattle.std.proofs.lemmas.Map.Text.{is_eq-slice_cmp}
 use Rattle.std.proofs.lemmas.Slice.Eq.{bytes_eq-Decides}
 use Rattle.sync_model.specs.declared.state.KeyState.{KeyState}
 use Rattle.sync_model.specs.KeyStates.{new_state}
-use Rattle.sync_model.specs.Sides.{States, state_at, with_state, replaced}
+use Rattle.sync_model.specs.Sides.{States, state_at, with_state}
 
 -- two hashes that a test finds equal are one
 pub tested_same : (a b : List ℕ) → is_eq (slice_cmp nat_cmp a b) ≡ true → a ≡ b
 tested_same a b is = (bytes_eq-Decides a b).0 (sym (is_eq-slice_cmp a b) ∙ is)
 
-tested_itself : (a : List ℕ) → is_eq (slice_cmp nat_cmp a a) ≡ true
+pub tested_itself : (a : List ℕ) → is_eq (slice_cmp nat_cmp a a) ≡ true
 tested_itself a = is_eq-slice_cmp a a ∙ (bytes_eq-Decides a a).1 refl
 
 -- a value that a test finds first, or what comes after it
@@ -58,22 +58,6 @@ inserted_look [] hash other state = found_by _ hash other state None refl
 inserted_look (here ∷ states) hash other state =
     inserted_by (slice_cmp nat_cmp hash here.0) states here hash other state refl (inserted_look states hash other state)
 
-replaced_by : (found : Bool) (states : States) (here : List ℕ × KeyState) (hash other : List ℕ) (state : KeyState)
-    → is_eq (slice_cmp nat_cmp hash here.0) ≡ found
-    → ((look (replaced states hash state) other ≡ look states other) ⊎ ((look (replaced states hash state) other ≡ Some state) × (other ≡ hash)))
-    → (look (cond found ((here.0, state) ∷ states) (here ∷ replaced states hash state)) other ≡ look (here ∷ states) other)
-    ⊎ ((look (cond found ((here.0, state) ∷ states) (here ∷ replaced states hash state)) other ≡ Some state) × (other ≡ hash))
-replaced_by true states here hash other state is rest =
-    in_place_by _ hash here.0 other state here.1 (look states other) refl (tested_same hash here.0 is)
-replaced_by false states here hash other state is rest =
-    behind_by (is_eq (slice_cmp nat_cmp other here.0)) hash other state here.1 _ (look states other) rest
-
-replaced_look : (states : States) (hash other : List ℕ) (state : KeyState)
-    → (look (replaced states hash state) other ≡ look states other) ⊎ ((look (replaced states hash state) other ≡ Some state) × (other ≡ hash))
-replaced_look [] hash other state = inl refl
-replaced_look (here ∷ states) hash other state =
-    replaced_by (is_eq (slice_cmp nat_cmp hash here.0)) states here hash other state refl (replaced_look states hash other state)
-
 -- the state of a key is as it was, or it is the new one of that key
 abbrev pub IsSetAt : States → States → List ℕ → KeyState → Type 0
 IsSetAt old new hash state = (other : List ℕ)
@@ -88,10 +72,6 @@ at_from_look old new hash other state (inr is) = inr (ap (λ (found : Option Key
 pub with_state-IsSetAt : (states : States) (hash : List ℕ) (state : KeyState) → IsSetAt states (with_state states hash state) hash state
 with_state-IsSetAt states hash state other =
     at_from_look (look states other) (look (with_state states hash state) other) hash other state (inserted_look states hash other state)
-
-pub replaced-IsSetAt : (states : States) (hash : List ℕ) (state : KeyState) → IsSetAt states (replaced states hash state) hash state
-replaced-IsSetAt states hash state other =
-    at_from_look (look states other) (look (replaced states hash state) other) hash other state (replaced_look states hash other state)
 
 -- the state that is put at a key stands there
 put_by : (order : Ordering) (states : States) (here : List ℕ × KeyState) (hash : List ℕ) (state : KeyState)

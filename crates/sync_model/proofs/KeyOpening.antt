@@ -1,23 +1,25 @@
 -- A bag that has each key which seals a write opens every batch of writes.
-use Rattle.std.proofs.Common.{◌≡◌, ℕ, zero, suc, Bool, true, false, cond, ◌+◌, List, [], ◌∷◌, ◌++◌, length, take, Option, None, Some, refl, sym, ap, ◌∙◌}
-use Rattle.std.specs.List.{list_all}
-use Rattle.std.proofs.lemmas.Bool.{and_parts, and_from, cond_both}
+use Rattle.std.proofs.Common.{◌≡◌, ℕ, Bool, true, false, cond, List, [], ◌∷◌, Option, None, Some, unwrap_or, refl, ap, ◌∙◌, subst}
+use Rattle.std.specs.List.{list_all, AllByRecursion}
+use Rattle.std.proofs.lemmas.Bool.{and_parts, and_from}
 use Rattle.std.proofs.lemmas.List.Folds.{list_all-append}
+use Rattle.std.proofs.lemmas.Option.{none-some}
 use Rattle.client_tags.specs.declared.Kind.{Kind}
 use Rattle.key_derivation.specs.declared.NigoriKey.{NigoriKey}
 use Rattle.sync_model.specs.declared.message.Content.{Content}
 use Rattle.sync_model.specs.declared.message.Entry.{Entry}
-use Rattle.sync_model.specs.declared.message.Marker.{Marker}
 use Rattle.sync_model.specs.declared.message.Update.{Update}
 use Rattle.sync_model.specs.Values.{same_kind, has_names}
 use Rattle.sync_model.specs.Settings.{Setting, names_of}
-use Rattle.sync_model.specs.Servers.{as_given, is_wanted, wanted_writes, MAX_UPDATES}
+use Rattle.sync_model.specs.History.{write_at}
+use Rattle.sync_model.specs.Servers.{mark_of, wanted_writes, updates_of}
 use Rattle.sync_model.specs.Clients.{opens_lock, opens}
 use Rattle.sync_model.specs.Receiving.{update_of, updates_in}
-use Rattle.sync_model.specs.Laws.{lock_names, locks_of, batch_given, EveryCurrentClientOpens}
+use Rattle.sync_model.specs.Laws.{lock_names, locks_of, IsGivenWrite, EveryCurrentClientOpensWrites, EveryCurrentClientOpens}
 use Rattle.sync_model.specs.Worlds.{World, client_at, world_of}
 use Rattle.sync_model.specs.KeyFacts.{Each}
-use Rattle.sync_model.proofs.EachLemmas.{Each-append, Each-take}
+use Rattle.sync_model.proofs.Histories.{at_top}
+use Rattle.sync_model.proofs.GivenWrites.{updates_given}
 use Rattle.sync_model.proofs.KeyNames.{has_names-parts}
 use Rattle.sync_model.proofs.KeyWorlds.{world_of-EveryCurrentClientHasTheKeys}
 
@@ -31,20 +33,25 @@ opens_named : (setting : Setting) (bag : List NigoriKey) (lock : Option (List �
 opens_named setting bag None has = refl
 opens_named setting bag (Some name) has = (and_parts _ _ has).0
 
--- what is wanted of writes whose locks a bag has opens
-wanted_opens : (setting : Setting) (bag : List NigoriKey) (marks : List Marker) (whole older : List (Entry Content))
-    → has_names (names_of setting bag) (locks_of older) ≡ true → Each (Opens setting bag) (wanted_writes marks whole older)
-unfolding wanted_writes
-wanted_opens setting bag marks whole [] has = tt
-wanted_opens setting bag marks whole (write ∷ older) has =
-    let parts = has_names-parts (names_of setting bag) (lock_names write.content.lock) (locks_of older) has in
-    Each-append (Opens setting bag) (wanted_writes marks whole older) _ (wanted_opens setting bag marks whole older parts.1)
-    (given_opens setting bag write (length older + 1) (is_wanted marks whole (length older + 1) write) (opens_named setting bag write.content.lock parts.0))
-  where
-    given_opens : (setting : Setting) (bag : List NigoriKey) (write : Entry Content) (version : ℕ) (wanted : Bool) → Opens setting bag write
-        → Each (Opens setting bag) (cond wanted (as_given version write ∷ []) [])
-    given_opens setting bag write version true opens = (opens, tt)
-    given_opens setting bag write version false opens = tt
+-- a bag that has each key which seals a write opens the write of each version
+write_opens : (setting : Setting) (bag : List NigoriKey) (history : List (Entry Content)) → has_names (names_of setting bag) (locks_of history) ≡ true
+    → (version : ℕ) (write : Entry Content) → write_at history version ≡ Some write → Opens setting bag write
+write_opens setting bag [] has version write is = absurd (none-some write is)
+write_opens setting bag (newest ∷ older) has version write is =
+    let parts = has_names-parts (names_of setting bag) (lock_names newest.content.lock) (locks_of older) has in
+    at_top {P = Opens setting bag write} write newest older version is
+    (λ at same. subst (λ (found : Entry Content). Opens setting bag found) same (opens_named setting bag newest.content.lock parts.0))
+    (λ before. write_opens setting bag older parts.1 version write before)
+
+-- so it opens each entry that is one of the writes
+given_open : (setting : Setting) (bag : List NigoriKey) (history : List (Entry Content)) → has_names (names_of setting bag) (locks_of history) ≡ true
+    → (entries : List (Entry Content)) → AllByRecursion (IsGivenWrite history) entries → Each (Opens setting bag) entries
+given_open setting bag history has [] all = tt
+given_open setting bag history has (entry ∷ entries) all = (
+  ap (λ (found : Entry Content). opens_lock setting bag found.content.lock) all.0.is_given
+      ∙ write_opens setting bag history has entry.version all.0.write all.0.is_write,
+  given_open setting bag history has entries all.1,
+)
 
 -- the updates of a type among entries that open do
 updates_open : (setting : Setting) (bag : List NigoriKey) (kind : Kind) (entries : List (Entry Content)) → Each (Opens setting bag) entries
@@ -61,12 +68,18 @@ updates_open setting bag kind (entry ∷ entries) each =
     of_kind setting bag entry true opens = and_from _ _ opens refl
     of_kind setting bag entry false opens = refl
 
--- a client that knows the newest write of the profile's keys opens every batch that a delivery may give it
-pub world_of-EveryCurrentClientOpens : EveryCurrentClientOpens
-world_of-EveryCurrentClientOpens setting valid schedule client knows kind asked marks =
+-- a client that knows the newest write of the profile's keys opens every batch of writes, however old
+pub world_of-EveryCurrentClientOpensWrites : EveryCurrentClientOpensWrites
+world_of-EveryCurrentClientOpensWrites setting valid schedule client knows kind entries mark all =
     let world : World = world_of setting schedule in
     let bag : List NigoriKey = (client_at world.clients client).bag in
-    updates_open setting bag kind (take MAX_UPDATES (wanted_writes marks world.history world.history))
-    (Each-take (Opens setting bag) MAX_UPDATES (wanted_writes marks world.history world.history)
-    (wanted_opens setting bag marks world.history world.history
-    (world_of-EveryCurrentClientHasTheKeys setting valid schedule client knows)))
+    updates_open setting bag kind entries
+    (given_open setting bag world.history (world_of-EveryCurrentClientHasTheKeys setting valid schedule client knows) entries all)
+
+-- so it opens every batch that a delivery may give it
+pub world_of-EveryCurrentClientOpens : EveryCurrentClientOpens
+world_of-EveryCurrentClientOpens setting valid schedule client knows kind asked marks =
+    let history : List (Entry Content) = (world_of setting schedule).history in
+    let given = updates_of history marks (wanted_writes marks history history) in
+    world_of-EveryCurrentClientOpensWrites setting valid schedule client knows kind given.entries (unwrap_or (mark_of kind given.marks) asked)
+    (updates_given marks history)

@@ -25,10 +25,11 @@ use Rattle.sync_model.specs.History.{write_at}
 use Rattle.sync_model.specs.Servers.{mark_of, is_wanted, as_given, wanted_writes, MAX_UPDATES, verdict_on, history_after, is_foreign, NOT_MY_BIRTHDAY, reply_to, history_served}
 use Rattle.sync_model.specs.Clients.{Client}
 use Rattle.sync_model.specs.Receiving.{ack_of, ack_for, acks_of, letter_of, update_of, updates_in, batch_letter, letter_in, is_fit, is_other_store, side_told, told, answered_with, answer_effect}
+use Rattle.sync_model.specs.Outcomes.{entries_in, entries_sent, writes_in}
 use Rattle.sync_model.specs.Laws.{answer_in}
 use Rattle.sync_model.specs.Worlds.{outcome_at, STORE_BIRTHDAY, is_invalid_entry}
-use Rattle.sync_model.specs.Deliveries.{entries_in, entries_sent, IsStored}
-use Rattle.sync_model.specs.KeyFacts.{Each, names_in, profile_value, profile_at, IsOfProfile, HistoryHasKeys, KeepsKeys, writes_in, IsTold, IsGiven, UpdateTells, AckTells, LetterTells, names_sent, names_awaited, names_acked, names_in_letter, names_in_tasks, under_way, HasKeys}
+use Rattle.sync_model.specs.Deliveries.{IsStored}
+use Rattle.sync_model.specs.KeyFacts.{Each, names_in, profile_value, profile_at, IsOfProfile, HistoryHasKeys, KeepsKeys, IsTold, IsGiven, UpdateTells, AckTells, LetterTells, names_sent, names_awaited, names_acked, names_in_letter, names_in_tasks, under_way, HasKeys}
 use Rattle.sync_model.proofs.Histories.{at_top, write_at-le, write_at-newest, write_at-kept}
 use Rattle.sync_model.proofs.EachLemmas.{Each-append, Each-take}
 use Rattle.sync_model.proofs.KeyNames.{has_names-self, has_names-both, has_names-parts}

@@ -1,5 +1,5 @@
 -- What a client gathers and requests keeps the profile's keys, and leaves it with the keys that it knows and sends.
-use Rattle.std.proofs.Common.{◌≡◌, ℕ, ◌+◌, ◌-◌, ◌≤◌, false, cond, ◌||◌, List, [], ◌∷◌, ◌++◌, length, Option, Some, None, is_some, refl, sym, ap, ◌∙◌, subst, IsTrue, nat_eq, append_assoc, arith}
+use Rattle.std.proofs.Common.{◌≡◌, ℕ, ◌+◌, ◌-◌, ◌≤◌, false, cond, ◌||◌, List, [], ◌∷◌, ◌++◌, length, drop, Option, Some, None, is_some, refl, sym, ap, ◌∙◌, subst, IsTrue, nat_eq, append_assoc, arith}
 use Rattle.std.proofs.lemmas.Bool.{false≢true, cond-false, cond_both}
 use Rattle.client_tags.specs.declared.Kind.{Kind}
 use Rattle.client_tags.specs.declared.Kind.TheVariants.{Nigori, Preference, Password}
@@ -13,20 +13,23 @@ use Rattle.sync_model.specs.declared.message.Content.{Content}
 use Rattle.sync_model.specs.declared.message.Entry.{Entry}
 use Rattle.sync_model.specs.declared.message.Offer.{Offer}
 use Rattle.sync_model.specs.declared.state.KeyState.{KeyState}
+use Rattle.sync_model.specs.declared.state.Offered.{Offered}
 use Rattle.sync_model.specs.Values.{same_kind, is_absent, keys_in}
 use Rattle.sync_model.specs.Settings.{Setting, nigori_hash, names_of, has_key}
-use Rattle.sync_model.specs.Sides.{States, Side, state_at}
+use Rattle.sync_model.specs.Sides.{States, Side, state_at, after_offer, after_offers, side_offered}
+use Rattle.sync_model.specs.KeyStates.{MAX_OFFERED, is_offered, with_offered, noted}
 use Rattle.sync_model.specs.Offers.{with_due, with_all_due, with_reseals, offers_of}
 use Rattle.sync_model.specs.Clients.{Client, side_of, plain_effect, nigori_base, lock_if_had, default_name, needs_default, wanted_name, opens, batch_mailed}
-use Rattle.sync_model.specs.Sending.{MAX_ENTRIES, own_lock, lock_for, drawn_after, entry_of, sealed, is_held_back, lacks_own_lock, gathered, gathering, is_gather_void, gather_effect, is_busy, ask_of, ask_effect, commit_of, offer_effect}
+use Rattle.sync_model.specs.Sending.{MAX_ENTRIES, own_lock, lock_for, drawn_after, entry_of, sealed, is_held_back, lacks_own_lock, asked_offers, gathered, holding, gathering, is_gather_void, gather_effect, is_busy, ask_of, ask_effect, commit_of, offer_effect}
+use Rattle.sync_model.specs.Outcomes.{entries_sent}
 use Rattle.sync_model.specs.Laws.{lock_names, newest_keys}
-use Rattle.sync_model.specs.Deliveries.{entries_sent}
-use Rattle.sync_model.specs.KeyFacts.{Each, HaveNames, names_in, profile_value, profile_at, HistoryHasKeys, CarriesKeys, KeepsKeys, PendingTells, names_sent, names_awaited, names_in_letter, names_in_tasks, under_way, StateHasKeys, IsOneEntity, ClientHasKeys, HasKeys}
-use Rattle.sync_model.proofs.EachLemmas.{Each-append, Each-take}
+use Rattle.sync_model.specs.KeyFacts.{Each, HaveNames, HaveOffered, names_in, profile_value, profile_at, HistoryHasKeys, CarriesKeys, KeepsKeys, PendingTells, names_sent, names_awaited, names_in_letter, names_in_tasks, under_way, StateHasKeys, IsOneEntity, ClientHasKeys, HasKeys}
+use Rattle.sync_model.proofs.EachLemmas.{Each-append, Each-drop, Each-take}
 use Rattle.sync_model.proofs.KeyNames.{has_names-self, has_names-through, has_names-both}
 use Rattle.sync_model.proofs.KeyClients.{Has, has_four, way_parts, outcome_at-last, ClientHasKeys-less}
-use Rattle.sync_model.proofs.KeyTurns.{one-HoldsOfEntity}
-use Rattle.sync_model.proofs.KeyEvents.{MayHaveKeys, unless-MayHaveKeys, HasKeys-next}
+use Rattle.sync_model.proofs.KeyTurns.{StatesHaveKeys, one-HoldsOfEntity, state_of_entity, with_state-HoldsOfEntity}
+use Rattle.sync_model.proofs.KeyEvents.{MayHaveKeys, unless-MayHaveKeys, HasKeys-next, with_side-HasKeys}
+use Rattle.sync_model.proofs.NotedKeys.{IsNotedFrom, after_offer_at}
 use Rattle.sync_model.proofs.KeyMails.{mailed-HasKeys, batch_mailed-HasKeys}
 
 -- an offer of the one entity of the profile's keys: its own value, which is due
@@ -53,13 +56,95 @@ offers-own setting room (entry ∷ []) entity =
     in Each-take (IsOwnOffer setting (state_at (entry ∷ []) (nigori_hash setting))) room (with_due [] entry.0 entry.1 entry.1.due ++ []) holds.state
 offers-own setting room (first ∷ second ∷ rest) entity = absurd entity
 
+asked-own : (setting : Setting) (client : Client) → IsOneEntity setting client.nigori.states
+    → Each (IsOwnOffer setting (state_at client.nigori.states (nigori_hash setting))) (asked_offers setting Nigori client)
+asked-own setting client entity =
+    cond_both (is_held_back setting client Nigori) [] (offers_of None (MAX_ENTRIES - length client.held) client.nigori.states)
+    (λ (some : List Offer). Each (IsOwnOffer setting (state_at client.nigori.states (nigori_hash setting))) some) (λ held_back. tt)
+    (λ sent. offers-own setting (MAX_ENTRIES - length client.held) client.nigori.states entity)
+
 gathered-own : (setting : Setting) (client : Client) → IsOneEntity setting client.nigori.states
     → Each (IsOwnOffer setting (state_at client.nigori.states (nigori_hash setting))) (gathered setting Nigori client)
 gathered-own setting client entity =
-    let offers : List Offer = offers_of None (MAX_ENTRIES - length client.held) client.nigori.states
-    in cond_both (is_held_back setting client Nigori || lacks_own_lock setting Nigori client.bag offers) [] offers
+    cond_both (lacks_own_lock setting Nigori client.bag (asked_offers setting Nigori client)) [] (asked_offers setting Nigori client)
     (λ (some : List Offer). Each (IsOwnOffer setting (state_at client.nigori.states (nigori_hash setting))) some) (λ lacks. tt)
-    (λ has. offers-own setting (MAX_ENTRIES - length client.held) client.nigori.states entity)
+    (λ has. asked-own setting client entity)
+
+-- an own value that is offered leaves a state with its keys
+noted-StateHasKeys : (setting : Setting) (history : List (Entry Content)) (bag : List NigoriKey) (way : List (List ℕ)) (state : KeyState) (offer : Offer)
+    → IsOwnOffer setting state offer → StateHasKeys setting history bag way state
+    → StateHasKeys setting history bag way (noted state offer.number offer.value)
+unfolding noted
+noted-StateHasKeys setting history bag way state offer own has = record {
+  known = has.known;
+  had = has.had;
+  waits = λ due. record {
+    has_lock = (has.waits due).has_lock;
+    has_base = (has.waits due).has_base;
+    has_way = (has.waits due).has_way;
+    had = (has.waits due).had;
+  };
+  offered = more bag has.offered (has.waits own.due).had;
+  waits_offered = λ due. more (keys_in state.own) (has.waits_offered due) (has_names-self (names_in setting state.own));
+}
+  where
+    more : (keys : List NigoriKey) → HaveOffered setting keys state.offered → HaveNames setting keys (names_in setting state.own)
+        → HaveOffered setting keys (with_offered state.offered offer.number offer.value)
+    more keys have here =
+        let pair : Offered = record { number = offer.number; value = offer.value }
+        in let Is : Offered → Type 0 = λ (pair : Offered). HaveNames setting keys (names_in setting pair.value)
+        in cond_both (is_offered state.offered offer.number) state.offered
+        (drop (length state.offered + 1 - MAX_OFFERED) (state.offered ++ pair ∷ [])) (λ (offered : List Offered). HaveOffered setting keys offered) (λ noted. have)
+        (λ new. Each-drop Is (length state.offered + 1 - MAX_OFFERED) (state.offered ++ pair ∷ [])
+        (Each-append Is state.offered (pair ∷ []) have (subst (λ (value : Value). HaveNames setting keys (names_in setting value)) own.own here, tt)))
+
+-- what is offered of a state is of that state with other offers too
+own_again : (setting : Setting) (state : KeyState) (offered : List Offered) (offers : List Offer)
+    → Each (IsOwnOffer setting state) offers → Each (IsOwnOffer setting (record state { offered = offered })) offers
+own_again setting state offered [] own = tt
+own_again setting state offered (offer ∷ offers) own = (
+  record { hash = own.0.hash; known = own.0.known; own = own.0.own; due = own.0.due },
+  own_again setting state offered offers own.1,
+)
+
+-- own values that are offered leave the one entity's state with its keys
+noted-StatesHaveKeys : (setting : Setting) (history : List (Entry Content)) (bag : List NigoriKey) (way : List (List ℕ)) (states : States) (offers : List Offer)
+    → Each (IsOwnOffer setting (state_at states (nigori_hash setting))) offers
+    → StatesHaveKeys setting history bag way states → StatesHaveKeys setting history bag way (after_offers states offers)
+unfolding after_offers
+noted-StatesHaveKeys setting history bag way states [] own has = has
+noted-StatesHaveKeys setting history bag way states (offer ∷ offers) own has =
+    let here : IsOwnOffer setting (state_at states offer.hash) offer
+    = subst (λ (hash : List ℕ). IsOwnOffer setting (state_at states hash) offer) (sym own.0.hash) own.0
+    in let is : IsNotedFrom (state_at states (nigori_hash setting)) (state_at (after_offer states offer) (nigori_hash setting))
+    = after_offer_at states offer (nigori_hash setting)
+    in noted-StatesHaveKeys setting history bag way (after_offer states offer) offers
+    (subst (λ (state : KeyState). Each (IsOwnOffer setting state) offers) (sym is.1)
+    (own_again setting (state_at states (nigori_hash setting)) is.0 offers own.1))
+    (with_state-HoldsOfEntity setting (StateHasKeys setting history bag way) states offer.hash (noted (state_at states offer.hash) offer.number offer.value)
+    own.0.hash has.entity (noted-StateHasKeys setting history bag way (state_at states offer.hash) offer here
+    (state_of_entity setting (StateHasKeys setting history bag way) states offer.hash own.0.hash has)))
+
+-- a client whose side of the profile's keys notes what it offers
+noted-HasKeys : (setting : Setting) (history : List (Entry Content)) (outcomes : List EventOutcome) (side : Side) (bag : List NigoriKey)
+    (held : List (Entry Content)) (outstanding : Option ℕ) (offers : List Offer)
+    → Each (IsOwnOffer setting (state_at side.states (nigori_hash setting))) offers
+    → ClientHasKeys setting history outcomes side bag held outstanding → ClientHasKeys setting history outcomes (side_offered side offers) bag held outstanding
+noted-HasKeys setting history outcomes side bag held outstanding offers own has =
+    let states : StatesHaveKeys setting history bag (under_way setting outcomes side held outstanding) (after_offers side.states offers)
+    = noted-StatesHaveKeys setting history bag (under_way setting outcomes side held outstanding) side.states offers own
+    record { entity = has.entity; state = has.state }
+    in record {
+      entity = states.entity;
+      state = states.state;
+      way = has.way;
+      holds = has.holds;
+      requested = has.requested;
+      mailbox = has.mailbox;
+      opened = has.opened;
+      letter = has.letter;
+      pending = has.pending;
+    }
 
 -- an entry of an own value that waits with its keys carries them
 carries_own : (setting : Setting) (history : List (Entry Content)) (bag : List NigoriKey) (way : List (List ℕ)) (state : KeyState)
@@ -207,6 +292,8 @@ held-HasKeys setting history outcomes client new keeps had own has =
           has_way = has_held setting (names_in setting state.own) outcomes client.nigori client.held new client.outstanding waits.has_way (own due);
           had = waits.had;
         };
+        offered = has.state.offered;
+        waits_offered = has.state.waits_offered;
       };
       way = has_held setting (names_of setting client.bag) outcomes client.nigori client.held new client.outstanding has.way had;
       holds = Each-append (KeepsKeys setting history) client.held new has.holds keeps;
@@ -225,11 +312,13 @@ gathered_of_profile setting history outcomes client None tells has =
     let state : KeyState = state_at client.nigori.states (nigori_hash setting)
     in let name : Option (List ℕ) = wanted_name setting client Nigori
     in let own = gathered-own setting client has.entity
-    in held-HasKeys setting history outcomes client (sealed Nigori name client.drawn (gathered setting Nigori client))
+    in noted-HasKeys setting history outcomes client.nigori client.bag (client.held ++ sealed Nigori name client.drawn (gathered setting Nigori client)) client.outstanding
+    (asked_offers setting Nigori client) (asked-own setting client has.entity)
+    (held-HasKeys setting history outcomes client (sealed Nigori name client.drawn (gathered setting Nigori client))
     (sealed_own setting history client.bag (under_way setting outcomes client.nigori client.held client.outstanding) state name client.drawn (gathered setting Nigori client) has.state own)
     (sealed_own-names setting (names_of setting client.bag) state name client.drawn (gathered setting Nigori client) (λ due. (has.state.waits due).had) own)
     (λ due. sealed_own-names setting (names_in setting state.own) state name client.drawn (gathered setting Nigori client) (λ again. has_names-self (names_in setting state.own)) own)
-    has
+    has)
 gathered_of_profile setting history outcomes client (Some batch) tells has =
     cond_both (opens setting client.bag batch) (batch_mailed setting client Nigori client.nigori batch) client (λ (next : Client). HasKeys setting history outcomes next)
     (λ open_now. mailed-HasKeys setting history outcomes client.nigori client.bag client.held client.outstanding batch tells has) (λ waits. has)
@@ -240,11 +329,13 @@ gathered_of_other : (setting : Setting) (history : List (Entry Content)) (outcom
     → HasKeys setting history outcomes (gathering setting kind client pending)
 gathered_of_other setting history outcomes kind client None other kept has =
     let name : Option (List ℕ) = wanted_name setting client kind
-    in held-HasKeys setting history outcomes client (sealed kind name client.drawn (gathered setting kind client))
+    in let holds : Client = holding kind name (gathered setting kind client) client
+    in with_side-HasKeys setting history outcomes holds kind (side_offered (side_of holds kind) (asked_offers setting kind client)) other
+    (held-HasKeys setting history outcomes client (sealed kind name client.drawn (gathered setting kind client))
     (sealed_others setting history kind name client.drawn (gathered setting kind client) other (wanted_name-newest setting history outcomes kind client kept has))
     (sealed_others-names setting (names_of setting client.bag) kind name client.drawn (gathered setting kind client) other)
     (λ due. sealed_others-names setting (names_in setting (state_at client.nigori.states (nigori_hash setting)).own) kind name client.drawn (gathered setting kind client) other)
-    has
+    has)
 gathered_of_other setting history outcomes kind client (Some batch) other kept has =
     cond_both (opens setting client.bag batch) (batch_mailed setting client kind (side_of client kind) batch) client (λ (next : Client). HasKeys setting history outcomes next)
     (λ open_now. batch_mailed-HasKeys setting history outcomes client kind (side_of client kind) batch other has) (λ waits. has)

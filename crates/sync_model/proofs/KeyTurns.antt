@@ -1,5 +1,5 @@
 -- A turn of the profile's keys: updates and acknowledgements leave a client with the keys that it knows and sends.
-use Rattle.std.proofs.Common.{◌≡◌, ℕ, Bool, true, false, cond, ◌&&◌, not, List, [], ◌∷◌, Option, Some, None, is_some, refl, sym, ap, ap₂, ◌∙◌, subst, IsTrue, bytes_eq, nat_le, unwrap_or}
+use Rattle.std.proofs.Common.{◌≡◌, ℕ, Bool, true, false, cond, ◌&&◌, ◌||◌, not, nat_lt, List, [], ◌∷◌, Option, Some, None, is_some, refl, sym, ap, ap₂, ◌∙◌, subst, IsTrue, bytes_eq, nat_le, unwrap_or}
 use Rattle.std.proofs.lemmas.Bool.{false≢true, cond-true, cond_both, and_parts}
 use Rattle.std.proofs.lemmas.Slice.Eq.{bytes_eq-Decides}
 use Rattle.std.specs.Ordering.{nat_cmp, match_ordering}
@@ -14,18 +14,19 @@ use Rattle.key_derivation.specs.declared.NigoriKey.{NigoriKey}
 use Rattle.sync_values.specs.declared.value.Value.{Value}
 use Rattle.sync_values.specs.declared.value.Value.TheVariants.{Absent, Preference as Setting_value, Password as Login_value, Nigori as Keys_value}
 use Rattle.sync_model.specs.declared.conflict.Decision.TheVariants.{Remote as TakeRemote}
-use Rattle.sync_model.specs.declared.conflict.Row.TheVariants.{C1, C2, C3, C4, C5, C6}
+use Rattle.sync_model.specs.declared.conflict.Row.TheVariants.{C0, C1, C2, C3, C4, C5, C6}
 use Rattle.sync_model.specs.declared.message.Ack.{Ack}
 use Rattle.sync_model.specs.declared.message.Content.{Content}
 use Rattle.sync_model.specs.declared.message.Entry.{Entry}
 use Rattle.sync_model.specs.declared.message.Update.{Update}
 use Rattle.sync_model.specs.declared.state.KeyState.{KeyState}
+use Rattle.sync_model.specs.declared.state.Offered.{Offered}
 use Rattle.sync_model.specs.Values.{same_nigori_key, same_value, is_absent, keys_in}
 use Rattle.sync_model.specs.Settings.{Setting, decided_by, nigori_hash, names_of}
 use Rattle.sync_model.specs.Conflicts.{row_of, choice_of}
-use Rattle.sync_model.specs.KeyStates.{new_state, is_old, accepted, rebased, settled, updated, is_ignored, still_due, acknowledged}
-use Rattle.sync_model.specs.Sides.{States, state_at, with_state, after_update, after_updates, replaced, after_ack, after_acks}
-use Rattle.sync_model.specs.KeyFacts.{Each, HaveNames, names_in, UpdateTells, AckTells, names_acked, names_updated, StateHasKeys, IsOneEntity, WaitsWithKeys}
+use Rattle.sync_model.specs.KeyStates.{new_state, is_earlier_offer, is_echo_of, is_echo, is_old, accepted, rebased, settled, updated, is_ignored, still_due, acknowledged}
+use Rattle.sync_model.specs.Sides.{States, state_at, with_state, after_update, after_updates, after_ack, after_acks}
+use Rattle.sync_model.specs.KeyFacts.{Each, HaveNames, HaveOffered, names_in, UpdateTells, AckTells, names_acked, names_updated, StateHasKeys, IsOneEntity, WaitsWithKeys}
 use Rattle.sync_model.proofs.KeyNames.{has_names-self, has_names-through, has_names-parts}
 use Rattle.sync_model.proofs.KeyClients.{Has}
 
@@ -67,53 +68,95 @@ accepted-HasKeys : (setting : Setting) (history : List (Entry Content)) (bag : L
     → UpdateTells setting history update → HaveNames setting bag (names_in setting update.value)
     → StateHasKeys setting history bag way (accepted state update)
 accepted-HasKeys setting history bag way state update tells had =
-    record { known = tells.known; had = had; waits = λ due. absurd (false≢true due) }
+    record { known = tells.known; had = had; waits = λ due. absurd (false≢true due); offered = tt; waits_offered = λ due. tt }
 
 -- an own value that stays where an update comes has the keys of that update
 rebased-HasKeys : (setting : Setting) (history : List (Entry Content)) (bag : List NigoriKey) (way : List (List ℕ)) (state : KeyState) (update : Update)
     → UpdateTells setting history update → HaveNames setting bag (names_in setting update.value)
-    → StateHasKeys setting history bag way state → Has (names_in setting state.base) (names_in setting update.value)
+    → StateHasKeys setting history bag way state → (IsTrue (is_some state.due) → Has (names_in setting state.own) (names_in setting update.value))
     → StateHasKeys setting history bag way (rebased state update state.own)
 rebased-HasKeys setting history bag way state update tells had has fits = record {
   known = tells.known;
   had = had;
   waits = λ due. let waits = has.waits due in record {
     has_lock = waits.has_lock;
-    has_base = has_names-through (names_in setting state.own) (names_in setting state.base) (names_in setting update.value) waits.has_base fits;
+    has_base = fits due;
     has_way = waits.has_way;
     had = waits.had;
   };
+  offered = tt;
+  waits_offered = λ due. tt;
 }
+
+-- an own value has what the value that was known before it has
+from_base : (setting : Setting) (history : List (Entry Content)) (bag : List NigoriKey) (way : List (List ℕ)) (state : KeyState) (value : Value)
+    → StateHasKeys setting history bag way state → Has (names_in setting state.base) (names_in setting value)
+    → IsTrue (is_some state.due) → Has (names_in setting state.own) (names_in setting value)
+from_base setting history bag way state value has fits due =
+    has_names-through (names_in setting state.own) (names_in setting state.base) (names_in setting value) (has.waits due).has_base fits
+
+-- keys that have those of each offered value have those of an earlier one that comes back
+earlier_by : (setting : Setting) (keys : List NigoriKey) (pair : Offered) (offered : List Offered) (due : ℕ) (value : Value) (found : Bool)
+    → (nat_lt pair.number due && same_value pair.value value) ≡ found → (found || is_earlier_offer offered due value) ≡ true
+    → HaveNames setting keys (names_in setting pair.value)
+    → (is_earlier_offer offered due value ≡ true → HaveNames setting keys (names_in setting value)) → HaveNames setting keys (names_in setting value)
+earlier_by setting keys pair offered due value true is any have rest =
+    subst (λ (found : List NigoriKey). HaveNames setting keys (names_of setting found))
+    (same_value-keys pair.value value (and_parts (nat_lt pair.number due) (same_value pair.value value) is).1) have
+earlier_by setting keys pair offered due value false is any have rest = rest any
+
+earlier_names : (setting : Setting) (keys : List NigoriKey) (offered : List Offered) (due : ℕ) (value : Value)
+    → is_earlier_offer offered due value ≡ true → HaveOffered setting keys offered → HaveNames setting keys (names_in setting value)
+earlier_names setting keys [] due value is have = absurd (false≢true is)
+earlier_names setting keys (pair ∷ offered) due value is have =
+    earlier_by setting keys pair offered due value (nat_lt pair.number due && same_value pair.value value) refl is have.0
+    (λ later. earlier_names setting keys offered due value later have.1)
+
+echo_of-names : (setting : Setting) (keys : List NigoriKey) (offered : List Offered) (due : Option ℕ) (value : Value)
+    → is_echo_of offered due value ≡ true → HaveOffered setting keys offered → HaveNames setting keys (names_in setting value)
+echo_of-names setting keys offered None value is have = absurd (false≢true is)
+echo_of-names setting keys offered (Some due) value is have = earlier_names setting keys offered due value is have
+
+echo-names : (setting : Setting) (keys : List NigoriKey) (state : KeyState) (value : Value)
+    → is_echo state value ≡ true → HaveOffered setting keys state.offered → HaveNames setting keys (names_in setting value)
+unfolding is_echo
+echo-names setting keys state value = echo_of-names setting keys state.offered state.due value
 
 settled_by : (setting : Setting) (history : List (Entry Content)) (bag : List NigoriKey) (way : List (List ℕ)) (state : KeyState) (update : Update)
     → UpdateTells setting history update → HaveNames setting bag (names_in setting update.value)
-    → StateHasKeys setting history bag way state → (first second third fourth fifth : Bool) → same_value update.value state.base ≡ fourth
+    → StateHasKeys setting history bag way state → (first echo second third fourth fifth : Bool) → is_echo state update.value ≡ echo
+    → same_value update.value state.base ≡ fourth
     → is_absent update.value ≡ fifth
-    → StateHasKeys setting history bag way (settled state update (choice_of (cond first C1 (cond second C2 (cond third C3 (cond fourth C4 (cond fifth C5 C6))))) TakeRemote))
-settled_by setting history bag way state update tells had has true second third fourth fifth same absent =
+    → StateHasKeys setting history bag way (settled state update (choice_of (cond first C1 (cond echo C0 (cond second C2 (cond third C3 (cond fourth C4 (cond fifth C5 C6)))))) TakeRemote))
+settled_by setting history bag way state update tells had has true echo second third fourth fifth echoes same absent =
     accepted-HasKeys setting history bag way state update tells had
-settled_by setting history bag way state update tells had has false true third fourth fifth same absent =
-    accepted-HasKeys setting history bag way state update tells had
-settled_by setting history bag way state update tells had has false false true fourth fifth same absent =
-    accepted-HasKeys setting history bag way state update tells had
-settled_by setting history bag way state update tells had has false false false true fifth same absent =
+settled_by setting history bag way state update tells had has false true second third fourth fifth echoes same absent =
     rebased-HasKeys setting history bag way state update tells had has
+    (λ due. echo-names setting (keys_in state.own) state update.value echoes (has.waits_offered due))
+settled_by setting history bag way state update tells had has false false true third fourth fifth echoes same absent =
+    accepted-HasKeys setting history bag way state update tells had
+settled_by setting history bag way state update tells had has false false false true fourth fifth echoes same absent =
+    accepted-HasKeys setting history bag way state update tells had
+settled_by setting history bag way state update tells had has false false false false true fifth echoes same absent =
+    rebased-HasKeys setting history bag way state update tells had has
+    (from_base setting history bag way state update.value has
     (subst (λ (keys : List NigoriKey). Has (names_in setting state.base) (names_of setting keys)) (sym (same_value-keys update.value state.base same))
-    (has_names-self (names_in setting state.base)))
-settled_by setting history bag way state update tells had has false false false false true same absent =
+    (has_names-self (names_in setting state.base))))
+settled_by setting history bag way state update tells had has false false false false false true echoes same absent =
     rebased-HasKeys setting history bag way state update tells had has
-    (subst (λ (keys : List NigoriKey). Has (names_in setting state.base) (names_of setting keys)) (sym (absent-keys update.value absent)) refl)
-settled_by setting history bag way state update tells had has false false false false false same absent =
+    (from_base setting history bag way state update.value has
+    (subst (λ (keys : List NigoriKey). Has (names_in setting state.base) (names_of setting keys)) (sym (absent-keys update.value absent)) refl))
+settled_by setting history bag way state update tells had has false false false false false false echoes same absent =
     accepted-HasKeys setting history bag way state update tells had
 
 settled-HasKeys : (setting : Setting) (history : List (Entry Content)) (bag : List NigoriKey) (way : List (List ℕ)) (state : KeyState) (update : Update)
     → UpdateTells setting history update → HaveNames setting bag (names_in setting update.value)
     → StateHasKeys setting history bag way state
-    → StateHasKeys setting history bag way (settled state update (choice_of (row_of state.base state.own update.value) TakeRemote))
+    → StateHasKeys setting history bag way (settled state update (choice_of (row_of (is_echo state update.value) state.base state.own update.value) TakeRemote))
 unfolding row_of
 settled-HasKeys setting history bag way state update tells had has =
-    settled_by setting history bag way state update tells had has (same_value state.own update.value) (is_absent state.own && not (is_absent update.value))
-    (same_value state.own state.base) (same_value update.value state.base) (is_absent update.value) refl refl
+    settled_by setting history bag way state update tells had has (same_value state.own update.value) (is_echo state update.value)
+    (is_absent state.own && not (is_absent update.value)) (same_value state.own state.base) (same_value update.value state.base) (is_absent update.value) refl refl refl
 
 -- an update leaves a client with the keys that it knows and sends
 updated-HasKeys : (setting : Setting) (history : List (Entry Content)) (bag : List NigoriKey) (way : List (List ℕ)) (state : KeyState) (update : Update)
@@ -122,9 +165,9 @@ updated-HasKeys : (setting : Setting) (history : List (Entry Content)) (bag : Li
 unfolding updated
 updated-HasKeys setting history bag way state update tells had has =
     cond_both (is_old state update) state
-    (cond (is_some state.due) (settled state update (choice_of (row_of state.base state.own update.value) TakeRemote)) (accepted state update))
+    (cond (is_some state.due) (settled state update (choice_of (row_of (is_echo state update.value) state.base state.own update.value) TakeRemote)) (accepted state update))
     (λ (next : KeyState). StateHasKeys setting history bag way next) (λ old. has)
-    (λ newer. cond_both (is_some state.due) (settled state update (choice_of (row_of state.base state.own update.value) TakeRemote)) (accepted state update)
+    (λ newer. cond_both (is_some state.due) (settled state update (choice_of (row_of (is_echo state update.value) state.base state.own update.value) TakeRemote)) (accepted state update)
     (λ (next : KeyState). StateHasKeys setting history bag way next)
     (λ due. settled-HasKeys setting history bag way state update tells had has)
     (λ clean. accepted-HasKeys setting history bag way state update tells had))
@@ -149,6 +192,7 @@ told-HasKeys : (setting : Setting) (history : List (Entry Content)) (bag : List 
       due = still_due state.due ack.number;
       last_edit = state.last_edit;
       lock = ack.lock;
+      offered = [];
     }
 told-HasKeys setting history bag way state ack tells sent had has = record {
   known = tells.known;
@@ -162,6 +206,8 @@ told-HasKeys setting history bag way state ack tells sent had has = record {
         had = waits.had;
       }
       in subst (λ (value : Value). WaitsWithKeys setting bag way ack.value value) own old;
+  offered = tt;
+  waits_offered = λ due. tt;
 }
 
 -- an acknowledgement leaves a client with the keys that it knows and sends
@@ -193,7 +239,7 @@ one-HoldsOfEntity setting P hash state is holds = record {
 }
 
 -- the state of the one entity, by a hash that is its
-state_of_entity : (setting : Setting) (P : KeyState → Type 0) (states : States) (hash : List ℕ) → hash ≡ nigori_hash setting
+pub state_of_entity : (setting : Setting) (P : KeyState → Type 0) (states : States) (hash : List ℕ) → hash ≡ nigori_hash setting
     → HoldsOfEntity setting P states → P (state_at states hash)
 state_of_entity setting P states hash is has = subst (λ (key : List ℕ). P (state_at states key)) (sym is) has.state
 
@@ -207,15 +253,6 @@ with_state-HoldsOfEntity setting P (entry ∷ []) hash state is entity holds =
     in subst (λ (order : Ordering). HoldsOfEntity setting P (match_ordering order ((hash, state) ∷ entry ∷ []) ((entry.0, state) ∷ []) (entry ∷ (hash, state) ∷ [])))
     (sym ((Equal-is (slice_cmp nat_cmp hash entry.0)).0 same)) (one-HoldsOfEntity setting P entry.0 state entity holds)
 with_state-HoldsOfEntity setting P (first ∷ second ∷ rest) hash state is entity holds = elim entity [ ]
-
--- a state is put in place of the one, if there is one
-replaced-HoldsOfEntity : (setting : Setting) (P : KeyState → Type 0) (states : States) (hash : List ℕ) (state : KeyState)
-    → HoldsOfEntity setting P states → P state → HoldsOfEntity setting P (replaced states hash state)
-replaced-HoldsOfEntity setting P [] hash state has holds = has
-replaced-HoldsOfEntity setting P (entry ∷ []) hash state has holds =
-    cond_both (is_at (slice_cmp nat_cmp hash) entry.0) ((entry.0, state) ∷ []) (entry ∷ []) (λ (states : States). HoldsOfEntity setting P states)
-    (λ here. one-HoldsOfEntity setting P entry.0 state has.entity holds) (λ there. has)
-replaced-HoldsOfEntity setting P (first ∷ second ∷ rest) hash state has holds = absurd has.entity
 
 -- the one entity's state has its keys
 abbrev pub StatesHaveKeys : Setting → List (Entry Content) → List NigoriKey → List (List ℕ) → States → Type 0
@@ -250,9 +287,11 @@ after_ack-HasKeys : (setting : Setting) (history : List (Entry Content)) (bag : 
     → StatesHaveKeys setting history bag way states → StatesHaveKeys setting history bag way (after_ack states ack)
 unfolding after_ack
 after_ack-HasKeys setting history bag way states ack tells sent had has =
-    replaced-HoldsOfEntity setting (StateHasKeys setting history bag way) states ack.hash (acknowledged (state_at states ack.hash) ack) has
-    (acknowledged-HasKeys setting history bag way (state_at states ack.hash) ack tells sent had
-    (state_of_entity setting (StateHasKeys setting history bag way) states ack.hash tells.entity has))
+    cond_both (is_ignored (state_at states ack.hash) ack) states (with_state states ack.hash (acknowledged (state_at states ack.hash) ack))
+    (λ (next : States). StatesHaveKeys setting history bag way next) (λ ignored. has)
+    (λ new. with_state-HoldsOfEntity setting (StateHasKeys setting history bag way) states ack.hash (acknowledged (state_at states ack.hash) ack)
+    tells.entity has.entity (acknowledged-HasKeys setting history bag way (state_at states ack.hash) ack tells sent had
+    (state_of_entity setting (StateHasKeys setting history bag way) states ack.hash tells.entity has)))
 
 -- some acknowledgements leave a client with the keys that it knows and sends
 pub after_acks-HasKeys : (setting : Setting) (history : List (Entry Content)) (bag : List NigoriKey) (way : List (List ℕ)) (states : States) (acks : List Ack)

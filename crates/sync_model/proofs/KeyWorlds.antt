@@ -1,6 +1,6 @@
 -- Every event keeps the profile's keys; so no key that seals a write is lost, and each current client has them all.
-use Rattle.std.proofs.Common.{◌≡◌, ℕ, zero, suc, ◌+◌, ◌-◌, Bool, true, false, cond, List, [], ◌∷◌, length, replicate, slice_index_or, Option, Some, None, refl, sym, ap, ◌∙◌, subst, eqb}
-use Rattle.std.proofs.lemmas.Bool.{false≢true, eqb-true, cond_both}
+use Rattle.std.proofs.Common.{◌≡◌, ℕ, zero, suc, ◌-◌, Bool, true, false, cond, List, [], ◌∷◌, replicate, slice_index_or, Option, Some, None, refl, sym, ap, ◌∙◌, subst}
+use Rattle.std.proofs.lemmas.Bool.{false≢true, eqb-true}
 use Rattle.key_derivation.specs.declared.NigoriKey.{NigoriKey}
 use Rattle.sync_model.specs.declared.event.Event.{Event}
 use Rattle.sync_model.specs.declared.event.Event.TheVariants.{Edit, Cut, Turn, Gather, Post, Ask, Offer, Lose, Crash, Deliver, Answer, SetPass, GivePass}
@@ -19,10 +19,12 @@ use Rattle.sync_model.specs.Servers.{reply_to, history_served}
 use Rattle.sync_model.specs.Sides.{state_at}
 use Rattle.sync_model.specs.Clients.{Client, new_client, Effect}
 use Rattle.sync_model.specs.Receiving.{answer_effect}
+use Rattle.sync_model.specs.Outcomes.{entries_in, entries_sent, writes_in, writes_given}
 use Rattle.sync_model.specs.Laws.{answer_in, Stores, locks_of, newest_keys, NoLockIsLost, EveryCurrentClientHasTheKeys}
-use Rattle.sync_model.specs.Deliveries.{entries_in, entries_sent, IsStored, DeliveriesAreTrue}
-use Rattle.sync_model.specs.KeyFacts.{Each, HaveNames, profile_key, profile_at, HistoryHasKeys, KeepsKeys, writes_in, writes_given, IsGiven, HasKeys, WorldHasKeys}
+use Rattle.sync_model.specs.Deliveries.{IsStored, DeliveriesAreTrue}
+use Rattle.sync_model.specs.KeyFacts.{Each, HaveNames, profile_key, profile_at, HistoryHasKeys, KeepsKeys, IsGiven, HasKeys, WorldHasKeys}
 use Rattle.sync_model.specs.Worlds.{World, opening, client_at, with_client_at, pass_at, outcome_at, affected, acted, STORE_BIRTHDAY, is_invalid_entry, delivered, is_awaited, replied, answered, stepped, run}
+use Rattle.sync_model.proofs.StepOutcomes.{each_outcome}
 use Rattle.sync_model.proofs.KeyNames.{has_names-through}
 use Rattle.sync_model.proofs.KeyHistory.{GoesOn, GoesOn-self, EachKeepsKeys-later, locks_in_newest}
 use Rattle.sync_model.proofs.KeyClients.{IsTold-later, ClientHasKeys-later, new_client-HasKeys}
@@ -38,13 +40,6 @@ given-later : (setting : Setting) (old new : List (Entry Content)) (writes : Lis
 given-later setting old new [] on given = tt
 given-later setting old new (write ∷ writes) on given =
     (λ is. IsTold-later setting old new write.key.hash write.version write.content.value on (given.0 is), given-later setting old new writes on given.1)
-
--- what is so of the last event and of the others is so of each
-each_outcome : (P : EventOutcome → Type 0) (outcome : EventOutcome) (outcomes : List EventOutcome) → P outcome
-    → ((event : ℕ) → P (outcome_at outcomes event)) → (event : ℕ) → P (outcome_at (outcome ∷ outcomes) event)
-unfolding outcome_at
-each_outcome P outcome outcomes last before event =
-    cond_both (eqb event (length outcomes + 1)) outcome (outcome_at outcomes event) P (λ here. last) (λ there. before event)
 
 -- what is so of one client, and of the others, is so of each
 each_client : (P : Client → Type 0) (clients : List Client) (place : ℕ) (client : Client) → P new_client → P client

@@ -13,7 +13,7 @@ use Rattle.sync_model.specs.Edits.{edit_kind, edit_value}
 use Rattle.sync_model.specs.Settings.{Setting, with_key}
 use Rattle.sync_model.specs.Sides.{side_edited}
 use Rattle.sync_model.specs.Clients.{Client, Effect, side_of, plain_effect}
-use Rattle.sync_model.specs.Changes.{edit_hash, edit_refusal, edit_taken, edit_effect, change_effect, cut_short, cut_effect, crash_effect, pass_value, set_pass_refusal, set_pass_effect, give_pass_refusal, give_pass_effect}
+use Rattle.sync_model.specs.Changes.{edit_hash, own_at, edit_refusal, edit_taken, edit_effect, change_effect, cut_short, cut_effect, crash_effect, pass_value, set_pass_refusal, set_pass_effect, give_pass_refusal, give_pass_effect}
 use Rattle.sync_model.specs.Facts.{ClientFacts}
 use Rattle.sync_model.proofs.Longer.{ClientFacts-later}
 use Rattle.sync_model.proofs.KnownSides.{edited-SideFacts}
@@ -24,8 +24,9 @@ edit_taken-facts : (history : List (Entry Content)) (outcomes : List EventOutcom
     → ClientFacts history outcomes client → EffectFacts history outcomes (Some (edit_taken setting number edit client))
 edit_taken-facts history outcomes setting number edit client facts = (
   ClientFacts-later history outcomes _ _ (with_side-ClientFacts history outcomes client (edit_kind edit)
-      (side_edited (side_of client (edit_kind edit)) (edit_hash setting edit) (edit_value edit))
-      (edited-SideFacts history (edit_kind edit) (side_of client (edit_kind edit)) (edit_hash setting edit) (edit_value edit) (facts.sides (edit_kind edit)))
+      (side_edited (side_of client (edit_kind edit)) (edit_hash setting edit) (edit_value (own_at (side_of client (edit_kind edit)) (edit_hash setting edit)) edit))
+      (edited-SideFacts history (edit_kind edit) (side_of client (edit_kind edit)) (edit_hash setting edit)
+      (edit_value (own_at (side_of client (edit_kind edit)) (edit_hash setting edit)) edit) (facts.sides (edit_kind edit)))
       (le_refl _) facts),
   tt,
 )

@@ -17,7 +17,7 @@ use Rattle.sync_model.specs.declared.state.KeyState.{KeyState}
 use Rattle.sync_model.specs.KeyStates.{edited, is_old, accepted, rebased, settled, resolution_of, updated, is_ignored, still_due, acknowledged}
 use Rattle.sync_model.specs.Sides.{States, state_at, with_state, after_update, after_updates, after_ack, after_acks}
 use Rattle.sync_model.specs.Facts.{key_of, IsWriteOf, KeyFacts, IsTrueUpdate, IsTrueAck, HasUpdate}
-use Rattle.sync_model.proofs.KeyLookups.{with_state-IsSetAt, replaced-IsSetAt, state_at-with_state, set_keeps}
+use Rattle.sync_model.proofs.KeyLookups.{with_state-IsSetAt, state_at-with_state, set_keeps}
 
 -- a key with a state of which a greater version is known
 known_later : (history : List (Entry Content)) (key : Key) (mark : ℕ) (old new : KeyState) → KeyFacts history key mark old
@@ -182,6 +182,7 @@ acknowledged_by : (history : List (Entry Content)) (key : Key) (mark : ℕ) (sta
       due = still_due state.due ack.number;
       last_edit = state.last_edit;
       lock = ack.lock;
+      offered = [];
     })
 acknowledged_by history key mark state ack true ignored is facts = facts
 acknowledged_by history key mark state ack false ignored is facts =
@@ -195,13 +196,20 @@ unfolding acknowledged
 acknowledged-KeyFacts history key mark state ack is facts =
     acknowledged_by history key mark state ack (is_ignored state ack) refl is facts
 
+after_ack_by : (history : List (Entry Content)) (kind : Kind) (mark : ℕ) (states : States) (ack : Ack) (ignored : Bool)
+    → IsTrueAck history kind ack → HasKeyFacts history kind mark states
+    → HasKeyFacts history kind mark (cond ignored states (with_state states ack.hash (acknowledged (state_at states ack.hash) ack)))
+after_ack_by history kind mark states ack true is all = all
+after_ack_by history kind mark states ack false is all =
+    set_keeps (λ hash state. KeyFacts history (key_of kind hash) mark state) states _ ack.hash (acknowledged (state_at states ack.hash) ack)
+    (with_state-IsSetAt states ack.hash (acknowledged (state_at states ack.hash) ack))
+    (acknowledged-KeyFacts history (key_of kind ack.hash) mark (state_at states ack.hash) ack is (all ack.hash)) all
+
 after_ack-KeyFacts : (history : List (Entry Content)) (kind : Kind) (mark : ℕ) (states : States) (ack : Ack)
     → IsTrueAck history kind ack → HasKeyFacts history kind mark states → HasKeyFacts history kind mark (after_ack states ack)
 unfolding after_ack
 after_ack-KeyFacts history kind mark states ack is all =
-    set_keeps (λ hash state. KeyFacts history (key_of kind hash) mark state) states _ ack.hash (acknowledged (state_at states ack.hash) ack)
-    (replaced-IsSetAt states ack.hash (acknowledged (state_at states ack.hash) ack))
-    (acknowledged-KeyFacts history (key_of kind ack.hash) mark (state_at states ack.hash) ack is (all ack.hash)) all
+    after_ack_by history kind mark states ack (is_ignored (state_at states ack.hash) ack) is all
 
 -- some acknowledgements
 pub after_acks-KeyFacts : (history : List (Entry Content)) (kind : Kind) (mark : ℕ) (states : States) (acks : List Ack)

@@ -10,12 +10,12 @@ use Rattle.sync_model.specs.declared.message.Content.{Content}
 use Rattle.sync_model.specs.declared.message.Entry.{Entry}
 use Rattle.sync_model.specs.declared.message.Request.{Request}
 use Rattle.sync_model.specs.Settings.{Setting}
-use Rattle.sync_model.specs.Sides.{Side, mailed}
-use Rattle.sync_model.specs.Clients.{Client, side_of, with_side, plain_effect, opens, batch_mailed}
-use Rattle.sync_model.specs.Sending.{gathering, is_gather_void, gather_effect, ask_of, is_busy, ask_effect, commit_of, offer_effect, lose_effect}
+use Rattle.sync_model.specs.Sides.{Side, side_offered, mailed}
+use Rattle.sync_model.specs.Clients.{Client, side_of, with_side, wanted_name, plain_effect, opens, batch_mailed}
+use Rattle.sync_model.specs.Sending.{holding, asked_offers, gathered, gathering, is_gather_void, gather_effect, ask_of, is_busy, ask_effect, commit_of, offer_effect, lose_effect}
 use Rattle.sync_model.specs.Worlds.{outcome_at}
 use Rattle.sync_model.specs.Facts.{IsWhole, SideFacts, asked_mark, IsAwaiting, ClientFacts}
-use Rattle.sync_model.proofs.KnownSides.{mailed-SideFacts}
+use Rattle.sync_model.proofs.KnownSides.{noted-SideFacts, mailed-SideFacts}
 use Rattle.sync_model.proofs.KnownClients.{with_side-ClientFacts, alike-ClientFacts, EffectFacts, done_facts}
 
 -- a batch that a client puts into a mailbox
@@ -38,7 +38,10 @@ gathering-ClientFacts history outcomes setting kind client (Some batch) whole fa
     by true = batch_mailed-ClientFacts history outcomes setting client kind (side_of client kind) batch (facts.sides kind) whole (le_refl _) facts
     by false = facts
 gathering-ClientFacts history outcomes setting kind client None whole facts =
-    alike-ClientFacts history outcomes client _ refl refl refl facts.awaits facts.sides
+    let holds : Client = holding kind (wanted_name setting client kind) (gathered setting kind client) client
+    in let held : ClientFacts history outcomes holds = alike-ClientFacts history outcomes client holds refl refl refl facts.awaits facts.sides
+    in with_side-ClientFacts history outcomes holds kind (side_offered (side_of holds kind) (asked_offers setting kind client))
+    (noted-SideFacts history kind (side_of holds kind) (asked_offers setting kind client) (held.sides kind)) (le_refl _) held
 
 pub gather_effect-facts : (history : List (Entry Content)) (outcomes : List EventOutcome) (setting : Setting) (kind : Kind) (client : Client)
     → ClientFacts history outcomes client → EffectFacts history outcomes (gather_effect setting kind client)

@@ -10,14 +10,16 @@ use Rattle.sync_model.specs.declared.message.Batch.{Batch}
 use Rattle.sync_model.specs.declared.message.Content.{Content}
 use Rattle.sync_model.specs.declared.message.Entry.{Entry}
 use Rattle.sync_model.specs.declared.message.Key.{Key}
+use Rattle.sync_model.specs.declared.message.Offer.{Offer}
 use Rattle.sync_model.specs.declared.message.Task.{Task}
 use Rattle.sync_model.specs.declared.message.Task.TheVariants.{Batch as Updating, Acks}
 use Rattle.sync_model.specs.declared.state.KeyState.{KeyState}
 use Rattle.sync_model.specs.History.{last_version}
 use Rattle.sync_model.specs.KeyStates.{edited}
-use Rattle.sync_model.specs.Sides.{Side, new_side, restarted_side, state_at, side_edited, with_state, after_updates, after_task, mailed}
+use Rattle.sync_model.specs.Sides.{Side, new_side, restarted_side, state_at, side_edited, side_offered, with_state, after_updates, after_task, mailed}
 use Rattle.sync_model.specs.Facts.{key_of, KeyFacts, IsWhole, IsTrueTask, mark_after, AreChained, SideFacts}
 use Rattle.sync_model.proofs.KeyLookups.{with_state-IsSetAt, set_keeps}
+use Rattle.sync_model.proofs.NotedKeys.{noted_keeps}
 use Rattle.sync_model.proofs.KnownKeys.{edited-KeyFacts, after_updates-KeyFacts, after_updates-has, after_acks-KeyFacts}
 
 -- what is whole from a mark is whole from a greater one
@@ -74,6 +76,19 @@ edited-SideFacts history kind side hash value facts = record {
       (edited (state_at side.states hash) value (side.last_edit + 1))
       (with_state-IsSetAt side.states hash (edited (state_at side.states hash) value (side.last_edit + 1)))
       (edited-KeyFacts history (key_of kind hash) side.mark (state_at side.states hash) value (side.last_edit + 1) (facts.keys hash)) facts.keys;
+  mailed = facts.mailed;
+  waits = facts.waits;
+  told = facts.told;
+}
+
+-- a side that notes what it was asked for
+pub noted-SideFacts : (history : List (Entry Content)) (kind : Kind) (side : Side) (offers : List Offer)
+    → SideFacts history kind side → SideFacts history kind (side_offered side offers)
+noted-SideFacts history kind side offers facts = record {
+  marked = facts.marked;
+  reached = facts.reached;
+  keys = λ hash. noted_keeps (λ state. KeyFacts history (key_of kind hash) side.mark state) side.states offers hash
+      (λ offered. record { is_known = (facts.keys hash).is_known; shown = (facts.keys hash).shown; passed = (facts.keys hash).passed });
   mailed = facts.mailed;
   waits = facts.waits;
   told = facts.told;

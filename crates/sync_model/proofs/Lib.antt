@@ -1,6 +1,7 @@
 pub mod Versions
 pub mod Runs
 pub mod CommitRows
+pub mod EchoRows
 pub mod ConflictRows
 pub mod PassphraseRows
 pub mod CrashRows
@@ -8,6 +9,7 @@ pub mod TableRows
 pub mod Writes
 pub mod Longer
 pub mod KeyLookups
+pub mod NotedKeys
 pub mod KnownKeys
 pub mod KnownSides
 pub mod KnownClients
@@ -20,7 +22,9 @@ pub mod WholeBatches
 pub mod KnownWorlds
 pub mod Agreement
 pub mod Histories
+pub mod StepOutcomes
 pub mod Deliveries
+pub mod Authors
 pub mod EachLemmas
 pub mod KeyNames
 pub mod KeyHistory
@@ -31,6 +35,7 @@ pub mod KeyMails
 pub mod KeySending
 pub mod KeyReplies
 pub mod KeyWorlds
+pub mod GivenWrites
 pub mod KeyOpening
 pub mod FateKeys
 pub mod FateUpdates
@@ -51,3 +56,13 @@ pub mod FateEdits
 pub mod FateTurns
 pub mod FateStarts
 pub mod FateLaw
+pub mod NumberLaws
+pub mod EchoKeys
+pub mod EchoStates
+pub mod EchoClients
+pub mod EchoWorlds
+pub mod EchoTurns
+pub mod EchoAuthors
+pub mod EchoConflicts
+pub mod EchoLaw
+pub mod LawfulWorlds

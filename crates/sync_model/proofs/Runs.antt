@@ -51,7 +51,7 @@ events_of world = events_line world.outcomes
 
 -- a client sets a preference
 abbrev pub set : ℕ → String → String → Event
-set client name value = Edit client (SetPreference record { name = codes name; value = codes value })
+set client name value = Edit client (SetPreference record { name = codes name; value = codes value; extra = [] })
 
 -- a client deletes a preference
 abbrev pub del : ℕ → String → Event
@@ -67,4 +67,5 @@ save_login = Edit 1 (SetPassword record {
   realm = codes "https://a.example/";
   secret = codes "secret";
   created = pos 5;
+  extra = [];
 })

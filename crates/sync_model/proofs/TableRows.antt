@@ -28,8 +28,8 @@ use Rattle.sync_model.specs.Settings.{names, with_keys}
 use Rattle.sync_model.specs.History.{answer_to, committed, answers_to}
 use Rattle.sync_model.specs.Servers.{wanted_writes, reply_to, history_served}
 use Rattle.sync_model.specs.Conflicts.{row_of}
-use Rattle.sync_model.specs.KeyStates.{updated, fate_of_update, acknowledged, ended}
-use Rattle.sync_model.specs.Sides.{after_update, after_updates, after_ack, after_acks, update_notes, notes_of, after_task, task_notes}
+use Rattle.sync_model.specs.KeyStates.{noted, is_echo, updated, fate_of_update, acknowledged, ended}
+use Rattle.sync_model.specs.Sides.{after_offers, after_update, after_updates, after_ack, after_acks, update_notes, notes_of, after_task, task_notes}
 use Rattle.sync_model.specs.Offers.{with_all_due, with_reseals}
 use Rattle.sync_model.specs.Clients.{bag_with}
 use Rattle.sync_model.specs.Sending.{sealed, drawn_for, gather_effect, ask_effect, offer_effect, lose_effect}
@@ -37,44 +37,44 @@ use Rattle.sync_model.specs.Receiving.{acks_of, updates_in, answer_effect, post_
 use Rattle.sync_model.specs.Changes.{edit_effect, change_effect, cut_effect, crash_effect, set_pass_effect, give_pass_effect}
 use Rattle.sync_model.specs.Worlds.{outcome_at, affected, STORE_BIRTHDAY, stepped, run}
 use Rattle.sync_model.specs.Fates.{fate_of, edits_made}
-use Rattle.sync_model.specs.Report.{events_text, server_text, key_text, nigori_text, value_text, lock_text, entity_line, entity_lines, client_text, side_text, value_line_text, row_word, fate_text, fate_line, client_lines, clients_lines, totals_text, report}
+use Rattle.sync_model.specs.Report.{events_text, server_text, key_text, nigori_text, extra_text, value_text, lock_text, entity_line, entity_lines, client_text, side_text, value_line_text, row_word, fate_text, fate_line, client_lines, clients_lines, totals_text, report}
 use Rattle.sync_model.proofs.Runs.{symbols, text_of, outcome_of, fates, set}
 
 -- the preference of name `a` and this value
 abbrev a_is : List ℕ → Value
-a_is value = Setting_value record { name = codes "a"; value = value }
+a_is value = Setting_value record { name = codes "a"; value = value; extra = [] }
 
 -- a login that was made at this time, whose secret is the time
 abbrev login_of : ℕ → Value
-login_of time = Login_value record { origin = []; user_element = []; user_value = []; pass_element = []; realm = []; secret = time ∷ []; created = pos time }
+login_of time = Login_value record { origin = []; user_element = []; user_value = []; pass_element = []; realm = []; secret = time ∷ []; created = pos time; extra = [] }
 
 -- an edit is kept where the key was deleted there
 abbrev EditMeetsDeletion : Type 0
 EditMeetsDeletion =
-    resolved (decided_by symbols Preference) (a_is (codes "1")) (a_is (codes "2")) Absent
+    resolved (decided_by symbols Preference) false (a_is (codes "1")) (a_is (codes "2")) Absent
     ≡ record { row = C5; choice = Local }
 
 -- the login that was made later wins
 abbrev NewerLogin : Type 0
 NewerLogin =
-    resolved (decided_by symbols Password) Absent (login_of 6) (login_of 5)
+    resolved (decided_by symbols Password) false Absent (login_of 6) (login_of 5)
     ≡ record { row = C6; choice = Local }
 
 -- the server's wins where both were made at once
 abbrev LoginsAtOnce : Type 0
 LoginsAtOnce =
-    resolved (decided_by symbols Password) Absent (Login_value record { origin = []; user_element = []; user_value = []; pass_element = []; realm = []; secret = []; created = pos 5 }) (login_of 5)
+    resolved (decided_by symbols Password) false Absent (Login_value record { origin = []; user_element = []; user_value = []; pass_element = []; realm = []; secret = []; created = pos 5; extra = [] }) (login_of 5)
     ≡ record { row = C6; choice = Remote }
 
 -- and where the client's was made earlier
 abbrev MadeFive : Type 0
 MadeFive =
-    resolved (decided_by symbols Password) Absent (login_of 5) (login_of 6)
+    resolved (decided_by symbols Password) false Absent (login_of 5) (login_of 6)
     ≡ record { row = C6; choice = Remote }
 
 -- what a rule may merge two lists of one string into
 abbrev merged : Value → Value → Decision
-merged local remote = Merged (Setting_value record { name = codes "list.x"; value = codes "[\"a\",\"b\"]" })
+merged local remote = Merged (Setting_value record { name = codes "list.x"; value = codes "[\"a\",\"b\"]"; extra = [] })
 
 -- a setting with another rule
 abbrev with_rule : (Value → Value → Decision) → Setting
@@ -132,5 +132,5 @@ CutMarks =
 
 -- all of them hold
 pub rows : EditMeetsDeletion × NewerLogin × LoginsAtOnce × MadeFive × ListsMerge × CutUpdates × CutMarks
-unfolding symbols digits text_word kind_word same_value names with_keys answer_to committed answers_to wanted_writes reply_to history_served row_of updated fate_of_update acknowledged ended after_update after_updates after_ack after_acks update_notes notes_of after_task task_notes with_all_due with_reseals bag_with sealed drawn_for gather_effect ask_effect offer_effect lose_effect acks_of updates_in answer_effect post_effect turn_effect edit_effect change_effect cut_effect crash_effect set_pass_effect give_pass_effect outcome_at affected STORE_BIRTHDAY stepped run fate_of edits_made events_text server_text key_text nigori_text value_text lock_text entity_line entity_lines client_text side_text value_line_text row_word fate_text fate_line client_lines clients_lines totals_text report
+unfolding symbols digits text_word kind_word same_value names with_keys answer_to committed answers_to wanted_writes reply_to history_served row_of noted is_echo updated fate_of_update acknowledged ended after_offers after_update after_updates after_ack after_acks update_notes notes_of after_task task_notes with_all_due with_reseals bag_with sealed drawn_for gather_effect ask_effect offer_effect lose_effect acks_of updates_in answer_effect post_effect turn_effect edit_effect change_effect cut_effect crash_effect set_pass_effect give_pass_effect outcome_at affected STORE_BIRTHDAY stepped run fate_of edits_made events_text server_text key_text nigori_text extra_text value_text lock_text entity_line entity_lines client_text side_text value_line_text row_word fate_text fate_line client_lines clients_lines totals_text report
 rows = (refl, refl, refl, refl, refl, refl, refl)

@@ -8,6 +8,7 @@ use Rattle.key_derivation.specs.declared.NigoriKey.{NigoriKey}
 use Rattle.sync_values.specs.declared.edit.Edit.{Edit}
 use Rattle.sync_values.specs.declared.edit.Edit.TheVariants.{SetNigori}
 use Rattle.sync_values.specs.declared.value.NigoriValue.{NigoriValue}
+use Rattle.sync_values.specs.declared.value.Value.{Value}
 use Rattle.sync_model.specs.declared.event.EventOutcome.TheVariants.{Done, Edited}
 use Rattle.sync_model.specs.declared.fate.Fate.TheVariants.{Followed}
 use Rattle.sync_model.specs.declared.fate.Note.{Note}
@@ -27,7 +28,7 @@ use Rattle.sync_model.specs.Clients.{Client, Effect, side_of, with_side, restart
 abbrev pub MAX_TEXT : ℕ
 MAX_TEXT = 16384
 
--- why a side refuses an edit of a key whose texts have this length, if it does
+-- why a side refuses an edit of a key of this length, if it does
 abbrev pub side_refusal : Side → List ℕ → ℕ → Option EditRefusal
 side_refusal side hash len =
     if nat_lt MAX_TEXT len then Some (TooLong len)
@@ -37,10 +38,17 @@ side_refusal side hash len =
 abbrev pub edit_hash : Setting → Edit → List ℕ
 edit_hash setting edit = setting.tag_hash (edit_kind edit) (edit_tag edit)
 
+-- the own value of a key
+abbrev pub own_at : Side → List ℕ → Value
+own_at side hash = (state_at side.states hash).own
+
+-- why a side refuses an edit of a key, if it does
+abbrev pub edit_refusal_at : Side → List ℕ → Edit → Option EditRefusal
+edit_refusal_at side hash edit = side_refusal side hash (edit_length (own_at side hash) edit)
+
 -- why an edit is refused, if it is
 abbrev pub edit_refusal : Setting → Client → Edit → Option EditRefusal
-edit_refusal setting client edit =
-    side_refusal (side_of client (edit_kind edit)) (edit_hash setting edit) (edit_length edit)
+edit_refusal setting client edit = edit_refusal_at (side_of client (edit_kind edit)) (edit_hash setting edit) edit
 
 -- an edit that follows another one of its key, which the server still lacks, settles that one
 abbrev pub follows : Option ℕ → ℕ → List Note
@@ -50,7 +58,7 @@ follows (Some due) number = record { number = due; fate = Followed number } ∷ 
 -- an edit that is taken, of this type and this key
 abbrev pub edit_effect_at : Client → ℕ → Kind → List ℕ → Edit → Side → Effect
 edit_effect_at client number kind hash edit side = record {
-  client = with_side client kind (side_edited side hash (edit_value edit));
+  client = with_side client kind (side_edited side hash (edit_value (own_at side hash) edit));
   outcome = Edited number kind (side.last_edit + 1);
   kind = kind;
   notes = follows (state_at side.states hash).due (side.last_edit + 1);

@@ -6,7 +6,7 @@ use Rattle.client_tags.specs.declared.Kind.{Kind}
 use Rattle.sync_values.specs.declared.value.Value.{Value}
 use Rattle.sync_values.specs.declared.value.Value.TheVariants.{Absent}
 use Rattle.sync_model.specs.declared.event.EventOutcome.{EventOutcome}
-use Rattle.sync_model.specs.declared.event.EventOutcome.TheVariants.{Void, Done, Edited, Requested, Delivered}
+use Rattle.sync_model.specs.declared.event.EventOutcome.TheVariants.{Requested, Delivered}
 use Rattle.sync_model.specs.declared.message.Ack.{Ack}
 use Rattle.sync_model.specs.declared.message.Batch.{Batch}
 use Rattle.sync_model.specs.declared.message.Call.{Call}
@@ -116,9 +116,7 @@ pub record IsAnswered (history : List (Entry Content)) (outcomes : List EventOut
 abbrev pub IsTrueOutcome : List (Entry Content) → List EventOutcome → EventOutcome → Type 0
 IsTrueOutcome history outcomes (Requested client request) = (kind : Kind) → asked_mark kind request.call ≤ length history
 IsTrueOutcome history outcomes (Delivered event reply) = IsAnswered history outcomes event reply
-IsTrueOutcome history outcomes Void = ⊤
-IsTrueOutcome history outcomes Done = ⊤
-IsTrueOutcome history outcomes (Edited client kind number) = ⊤
+IsTrueOutcome history outcomes _ = ⊤
 
 -- a client waits for the reply to a request that an event made, and that asks above no mark which it has not seen
 pub record IsAwaiting (outcomes : List EventOutcome) (client : Client) (event : ℕ) : Type 0 where

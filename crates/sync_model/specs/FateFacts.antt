@@ -4,7 +4,7 @@ use Rattle.std.specs.List.{AllByRecursion}
 use Rattle.client_tags.specs.declared.Kind.{Kind}
 use Rattle.sync_values.specs.declared.value.Value.{Value}
 use Rattle.sync_model.specs.declared.event.EventOutcome.{EventOutcome}
-use Rattle.sync_model.specs.declared.event.EventOutcome.TheVariants.{Void, Done, Edited, Requested, Delivered}
+use Rattle.sync_model.specs.declared.event.EventOutcome.TheVariants.{Requested, Delivered}
 use Rattle.sync_model.specs.declared.message.Ack.{Ack}
 use Rattle.sync_model.specs.declared.message.Call.{Call}
 use Rattle.sync_model.specs.declared.message.Call.TheVariants.{Commit, Updates as AskUpdates}
@@ -86,9 +86,7 @@ pub record IsSaidOfClient (Says : Saying) (number : ℕ) (outcomes : List EventO
 abbrev pub IsSaidOfOutcome : (ℕ → Saying) → EventOutcome → Type 0
 IsSaidOfOutcome Says (Requested client request) = IsSaidOfCall (Says client) request.call
 IsSaidOfOutcome Says (Delivered event reply) = IsOfDistinctKeys reply.verdict
-IsSaidOfOutcome Says Void = ⊤
-IsSaidOfOutcome Says Done = ⊤
-IsSaidOfOutcome Says (Edited client kind edit) = ⊤
+IsSaidOfOutcome Says _ = ⊤
 
 -- this is said of all that is on its way between the clients and the server; no client has the number 0
 pub record IsSaidOnTheWay (Says : ℕ → Saying) (world : World) : Type 0 where

@@ -3,7 +3,7 @@ use Rattle.std.specs.Prelude.{ℕ, Bool, ◌==◌, ◌&&◌, if◌then◌else◌
 use Rattle.std.specs.Option.{option_map}
 use Rattle.client_tags.specs.declared.Kind.{Kind}
 use Rattle.sync_model.specs.declared.event.EventOutcome.{EventOutcome}
-use Rattle.sync_model.specs.declared.event.EventOutcome.TheVariants.{Void, Done, Edited, Requested, Delivered}
+use Rattle.sync_model.specs.declared.event.EventOutcome.TheVariants.{Edited}
 use Rattle.sync_model.specs.declared.fate.Fate.{Fate}
 use Rattle.sync_model.specs.declared.fate.Settlement.{Settlement}
 use Rattle.sync_model.specs.Values.{same_kind}
@@ -21,10 +21,7 @@ fate_of settlements client kind number =
 -- the edit of a client and a type that an event acknowledged, if it did
 abbrev pub edit_made : ℕ → Kind → EventOutcome → List ℕ
 edit_made client kind (Edited editor edited number) = if editor == client && same_kind edited kind then number ∷ [] else []
-edit_made client kind Void = []
-edit_made client kind Done = []
-edit_made client kind (Requested author request) = []
-edit_made client kind (Delivered request reply) = []
+edit_made client kind _ = []
 
 -- the acknowledged edits of a client and a type, by their numbers
 unfoldable pub edits_made : ℕ → Kind → List EventOutcome → List ℕ

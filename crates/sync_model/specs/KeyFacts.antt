@@ -5,7 +5,6 @@ use Rattle.key_derivation.specs.declared.NigoriKey.{NigoriKey}
 use Rattle.sync_values.specs.declared.value.Value.{Value}
 use Rattle.sync_values.specs.declared.value.Value.TheVariants.{Absent}
 use Rattle.sync_model.specs.declared.event.EventOutcome.{EventOutcome}
-use Rattle.sync_model.specs.declared.event.EventOutcome.TheVariants.{Void, Done, Edited, Requested, Delivered}
 use Rattle.sync_model.specs.declared.message.Ack.{Ack}
 use Rattle.sync_model.specs.declared.message.Batch.{Batch}
 use Rattle.sync_model.specs.declared.message.Content.{Content}
@@ -14,9 +13,8 @@ use Rattle.sync_model.specs.declared.message.Key.{Key}
 use Rattle.sync_model.specs.declared.message.Task.{Task}
 use Rattle.sync_model.specs.declared.message.Task.TheVariants.{Batch as Updating, Acks}
 use Rattle.sync_model.specs.declared.message.Update.{Update}
-use Rattle.sync_model.specs.declared.message.Verdict.{Verdict}
-use Rattle.sync_model.specs.declared.message.Verdict.TheVariants.{Committed, Updated, Refused}
 use Rattle.sync_model.specs.declared.state.KeyState.{KeyState}
+use Rattle.sync_model.specs.declared.state.Offered.{Offered}
 use Rattle.sync_model.specs.Values.{same_kind, keys_in, has_names}
 use Rattle.sync_model.specs.Settings.{Setting, nigori_hash, names_of}
 use Rattle.sync_model.specs.History.{last_version}
@@ -24,7 +22,7 @@ use Rattle.sync_model.specs.Sides.{States, Side, state_at}
 use Rattle.sync_model.specs.Clients.{Client, new_client}
 use Rattle.sync_model.specs.Sending.{own_lock}
 use Rattle.sync_model.specs.Laws.{lock_names, newest_keys, AreLocksKept}
-use Rattle.sync_model.specs.Deliveries.{entries_sent}
+use Rattle.sync_model.specs.Outcomes.{entries_sent, writes_given}
 use Rattle.sync_model.specs.Worlds.{World, outcome_at}
 
 -- each of some things is so
@@ -77,20 +75,6 @@ pub record CarriesKeys (setting : Setting) (history : List (Entry Content)) (ent
 pub record KeepsKeys (setting : Setting) (history : List (Entry Content)) (entry : Entry Content) : Type 0 where
   pub of_profile : IsTrue (same_kind entry.key.kind Nigori) → CarriesKeys setting history entry
   pub of_others : same_kind entry.key.kind Nigori ≡ false → HaveNames setting (newest_keys history) (lock_names entry.content.lock)
-
--- the writes that a verdict gives
-abbrev pub writes_in : Verdict Content → List (Entry Content)
-writes_in (Updated updates) = updates.entries
-writes_in (Committed answers) = []
-writes_in (Refused code) = []
-
--- the writes that a delivery gave
-abbrev pub writes_given : EventOutcome → List (Entry Content)
-writes_given (Delivered request reply) = writes_in reply.verdict
-writes_given Void = []
-writes_given Done = []
-writes_given (Edited client kind number) = []
-writes_given (Requested client request) = []
 
 -- a value is that of the write of a version, or none is known
 pub record IsKnown (history : List (Entry Content)) (version : ℕ) (value : Value) : Type 0 where
@@ -182,11 +166,18 @@ pub record WaitsWithKeys (setting : Setting) (bag : List NigoriKey) (way : List 
   pub has_way : HaveNames setting (keys_in own) way
   pub had : HaveNames setting bag (names_in setting own)
 
--- what a client knows of the profile's keys is in the history, and its bag has these keys
+-- some keys have those of each value that was offered
+abbrev pub HaveOffered : Setting → List NigoriKey → List Offered → Type 0
+HaveOffered setting keys offered = Each (λ (pair : Offered). HaveNames setting keys (names_in setting pair.value)) offered
+
+-- what a client knows of the profile's keys is in the history, and its bag has these keys and those of what it offered; so
+-- has an own value that waits
 pub record StateHasKeys (setting : Setting) (history : List (Entry Content)) (bag : List NigoriKey) (way : List (List ℕ)) (state : KeyState) : Type 0 where
   pub known : IsKnown history state.known state.base
   pub had : HaveNames setting bag (names_in setting state.base)
   pub waits : IsTrue (is_some state.due) → WaitsWithKeys setting bag way state.base state.own
+  pub offered : HaveOffered setting bag state.offered
+  pub waits_offered : IsTrue (is_some state.due) → HaveOffered setting (keys_in state.own) state.offered
 
 -- the profile's keys are the one entity of their type
 abbrev pub IsOneEntity : Setting → States → Type 0

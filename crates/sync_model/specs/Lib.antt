@@ -17,6 +17,10 @@ pub mod Fates
 pub mod Report
 pub mod Laws
 pub mod Facts
+pub mod Outcomes
 pub mod Deliveries
 pub mod KeyFacts
 pub mod FateFacts
+pub mod EchoFacts
+pub mod EchoLaws
+pub mod Lawful

@@ -12,10 +12,10 @@ use Rattle.sync_values.specs.declared.value.Preference.{Preference as Pref}
 use Rattle.sync_values.specs.declared.value.Value.{Value}
 use Rattle.sync_values.specs.declared.value.Value.TheVariants.{Absent, Preference as Setting_value, Password as Login_value, Nigori as Keys_value}
 use Rattle.sync_model.specs.declared.event.EventOutcome.{EventOutcome}
-use Rattle.sync_model.specs.declared.event.EventOutcome.TheVariants.{Void, Done, Edited, Requested, Delivered}
+use Rattle.sync_model.specs.declared.event.EventOutcome.TheVariants.{Void, Requested, Delivered}
 use Rattle.sync_model.specs.declared.fate.Fate.{Fate}
 use Rattle.sync_model.specs.declared.conflict.Row.{Row}
-use Rattle.sync_model.specs.declared.conflict.Row.TheVariants.{C1, C2, C3, C4, C5, C6}
+use Rattle.sync_model.specs.declared.conflict.Row.TheVariants.{C0, C1, C2, C3, C4, C5, C6}
 use Rattle.sync_model.specs.declared.fate.Fate.TheVariants.{Followed, Committed, Matched, Taken, Merged}
 use Rattle.sync_model.specs.declared.message.Content.{Content}
 use Rattle.sync_model.specs.declared.message.Entry.{Entry}
@@ -32,26 +32,17 @@ use Rattle.sync_model.specs.Worlds.{World}
 -- an event was void
 abbrev pub is_void : EventOutcome → Bool
 is_void Void = true
-is_void Done = false
-is_void (Edited client kind number) = false
-is_void (Requested client request) = false
-is_void (Delivered request reply) = false
+is_void _ = false
 
 -- an event made a request
 abbrev pub is_request : EventOutcome → Bool
 is_request (Requested client request) = true
-is_request Void = false
-is_request Done = false
-is_request (Edited client kind number) = false
-is_request (Delivered request reply) = false
+is_request _ = false
 
 -- an event was a delivery
 abbrev pub is_delivery : EventOutcome → Bool
 is_delivery (Delivered request reply) = true
-is_delivery Void = false
-is_delivery Done = false
-is_delivery (Edited client kind number) = false
-is_delivery (Requested client request) = false
+is_delivery _ = false
 
 -- a number of events, and how many of them were void
 unfoldable pub events_text : ℕ → ℕ → List ℕ
@@ -68,6 +59,10 @@ server_text version keys = codes "server version " ++ decimal version ++ codes "
 -- the server's version, and how many keys it has, those of tombstones too
 abbrev pub server_line : List (Entry Content) → List ℕ
 server_line history = server_text (length history) (key_count history)
+
+-- the fields of a value that only a newer client knows, if there are any
+unfoldable pub extra_text : List ℕ → List ℕ
+extra_text extra = if length extra == 0 then [] else codes " + " ++ text_word extra
 
 -- the name of a preference and its value
 abbrev pub preference_text : Pref → List ℕ
@@ -104,8 +99,8 @@ nigori_text setting numbered nigori =
 -- a value, given how the names of keys are numbered
 unfoldable pub value_text : Setting → (List ℕ → ℕ) → Value → List ℕ
 value_text setting numbered Absent = codes "absent"
-value_text setting numbered (Setting_value preference) = preference_text preference
-value_text setting numbered (Login_value password) = password_text password
+value_text setting numbered (Setting_value preference) = preference_text preference ++ extra_text preference.extra
+value_text setting numbered (Login_value password) = password_text password ++ extra_text password.extra
 value_text setting numbered (Keys_value nigori) = nigori_text setting numbered nigori
 
 -- what seals a write, given how the names of keys are numbered
@@ -175,6 +170,7 @@ value_lines setting numbered number kind states =
 
 -- a row of the conflict table
 unfoldable pub row_word : Row → List ℕ
+row_word C0 = codes "C0"
 row_word C1 = codes "C1"
 row_word C2 = codes "C2"
 row_word C3 = codes "C3"

@@ -17,7 +17,8 @@ use Rattle.sync_model.specs.declared.message.Request.{Request}
 use Rattle.sync_model.specs.Values.{same_kind, is_absent}
 use Rattle.sync_model.specs.Settings.{Setting}
 use Rattle.sync_model.specs.Offers.{offers_of}
-use Rattle.sync_model.specs.Clients.{Client, Effect, side_of, plain_effect, nigori_base, needs_default, default_name, wanted_name, opens_lock, opens, batch_mailed}
+use Rattle.sync_model.specs.Sides.{side_offered}
+use Rattle.sync_model.specs.Clients.{Client, Effect, side_of, with_side, plain_effect, nigori_base, needs_default, default_name, wanted_name, opens_lock, opens, batch_mailed}
 
 -- how many entries a commit may have
 abbrev pub MAX_ENTRIES : ℕ
@@ -80,15 +81,19 @@ abbrev pub is_held_back : Setting → Client → Kind → Bool
 is_held_back setting client kind =
     needs_default (nigori_base setting client) kind && not (is_some (default_name setting client))
 
--- some offers, or none where a key for them is missing
-abbrev pub offers_if_had : Setting → Kind → Client → List Offer → List Offer
-offers_if_had setting kind client offers =
-    if is_held_back setting client kind || lacks_own_lock setting kind client.bag offers then [] else offers
+-- what a gather asks a type's side for: as many offers as the next commit has room for, or none where the type is held back
+abbrev pub asked_offers : Setting → Kind → Client → List Offer
+asked_offers setting kind client =
+    if is_held_back setting client kind then []
+    else offers_of (wanted_name setting client kind) (MAX_ENTRIES - length client.held) (side_of client kind).states
 
--- the offers of a type that a client may send now, as many as its next commit has room for
+-- some offers, or none where the bag lacks the key of their own lock
+abbrev pub offers_if_had : Setting → Kind → List NigoriKey → List Offer → List Offer
+offers_if_had setting kind bag offers = if lacks_own_lock setting kind bag offers then [] else offers
+
+-- the offers of a type that a client may send now
 abbrev pub gathered : Setting → Kind → Client → List Offer
-gathered setting kind client = offers_if_had setting kind client
-    (offers_of (wanted_name setting client kind) (MAX_ENTRIES - length client.held) (side_of client kind).states)
+gathered setting kind client = offers_if_had setting kind client.bag (asked_offers setting kind client)
 
 -- some offers of a type are sealed and held
 abbrev pub holding : Kind → Option (List ℕ) → List Offer → Client → Client
@@ -97,11 +102,17 @@ holding kind name offers client = record client {
   drawn = drawn_for kind name client.drawn offers;
 }
 
+-- a side notes what it was asked for, whether or not that can be sealed
+abbrev pub noting : Kind → List Offer → Client → Client
+noting kind offers client = with_side client kind (side_offered (side_of client kind) offers)
+
 -- a gather of a type: a batch that waits for a key is mailed if it opens now, and nothing is held beside it
 abbrev pub gathering : Setting → Kind → Client → Option Batch → Client
 gathering setting kind client (Some batch) =
     if opens setting client.bag batch then batch_mailed setting client kind (side_of client kind) batch else client
-gathering setting kind client None = holding kind (wanted_name setting client kind) (gathered setting kind client) client
+gathering setting kind client None =
+    noting kind (asked_offers setting kind client)
+    (holding kind (wanted_name setting client kind) (gathered setting kind client) client)
 
 -- a gather can't happen while a request is made, a letter of the type waits, or entries of the type are held
 abbrev pub is_gather_void : Kind → Client → Bool

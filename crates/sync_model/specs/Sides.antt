@@ -3,7 +3,7 @@ use Rattle.std.specs.Prelude.{ℕ, ◌+◌, ◌-◌, ◌^◌, Bool, ◌||◌, �
 use Rattle.std.specs.Ordering.{nat_cmp}
 use Rattle.std.specs.Cmp.Lexicographic.{slice_cmp}
 use Rattle.std.specs.BTreeMap.{is_at, insert_entry}
-use Rattle.std.specs.Map.{lookup, set_value}
+use Rattle.std.specs.Map.{lookup}
 use Rattle.sync_values.specs.declared.value.Value.{Value}
 use Rattle.sync_model.specs.declared.conflict.Decision.{Decision}
 use Rattle.sync_model.specs.declared.fate.Fate.{Fate}
@@ -11,11 +11,12 @@ use Rattle.sync_model.specs.declared.fate.Fate.TheVariants.{Committed}
 use Rattle.sync_model.specs.declared.fate.Note.{Note}
 use Rattle.sync_model.specs.declared.message.Ack.{Ack}
 use Rattle.sync_model.specs.declared.message.Batch.{Batch}
+use Rattle.sync_model.specs.declared.message.Offer.{Offer}
 use Rattle.sync_model.specs.declared.message.Task.{Task}
 use Rattle.sync_model.specs.declared.message.Task.TheVariants.{Batch as Updating, Acks}
 use Rattle.sync_model.specs.declared.message.Update.{Update}
 use Rattle.sync_model.specs.declared.state.KeyState.{KeyState}
-use Rattle.sync_model.specs.KeyStates.{new_state, edited, is_old, updated, fate_of_update, acknowledged, ended}
+use Rattle.sync_model.specs.KeyStates.{new_state, edited, noted, is_old, updated, fate_of_update, is_ignored, acknowledged, ended}
 
 -- key states by ascending hash
 abbrev pub States : Type 0
@@ -73,6 +74,19 @@ LAST_EDIT = 2 ^ 64 - 1
 abbrev pub is_full : Side → List ℕ → Bool
 is_full side hash = (nat_le MAX_STATES (length side.states) && not (has_state side.states hash)) || nat_le LAST_EDIT side.last_edit
 
+-- the states once a value of a key was offered
+abbrev pub after_offer : States → Offer → States
+after_offer states offer = with_state states offer.hash (noted (state_at states offer.hash) offer.number offer.value)
+
+-- the states once some values were offered, one after another
+unfoldable pub after_offers : States → List Offer → States
+after_offers states [] = states
+after_offers states (offer ∷ offers) = after_offers (after_offer states offer) offers
+
+-- a side once some of its values were offered
+abbrev pub side_offered : Side → List Offer → Side
+side_offered side offers = record side { states = after_offers side.states offers }
+
 -- the side after an edit of a key
 abbrev pub side_edited : Side → List ℕ → Value → Side
 side_edited side hash value = record side {
@@ -91,13 +105,11 @@ unfoldable pub after_updates : (Value → Value → Decision) → States → Lis
 after_updates decided states [] = states
 after_updates decided states (update ∷ updates) = after_updates decided (after_update decided states update) updates
 
--- the states with another one in place of that of a key, if the key has one
-abbrev pub replaced : States → List ℕ → KeyState → States
-replaced states hash state = set_value (is_at (slice_cmp nat_cmp hash)) states state
-
--- the states after an acknowledgement; of a key that was not edited there is none
+-- the states after an acknowledgement; one that changes nothing leaves no state behind
 unfoldable pub after_ack : States → Ack → States
-after_ack states ack = replaced states ack.hash (acknowledged (state_at states ack.hash) ack)
+after_ack states ack =
+    if is_ignored (state_at states ack.hash) ack then states
+    else with_state states ack.hash (acknowledged (state_at states ack.hash) ack)
 
 -- the states after some acknowledgements, one after another
 unfoldable pub after_acks : States → List Ack → States

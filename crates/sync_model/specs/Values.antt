@@ -47,21 +47,21 @@ same_nigori_key a b = bytes_eq a.user b.user && bytes_eq a.enc b.enc && bytes_eq
 
 -- two preferences are one
 abbrev pub same_preference : Pref → Pref → Bool
-same_preference a b = bytes_eq a.name b.name && bytes_eq a.value b.value
+same_preference a b = bytes_eq a.name b.name && bytes_eq a.value b.value && bytes_eq a.extra b.extra
 
 -- two logins are one
 abbrev pub same_login : Login → Login → Bool
 same_login a b =
     bytes_eq a.origin b.origin && bytes_eq a.user_element b.user_element && bytes_eq a.user_value b.user_value
     && bytes_eq a.pass_element b.pass_element && bytes_eq a.realm b.realm && bytes_eq a.secret b.secret
-    && int_eq a.created b.created
+    && int_eq a.created b.created && bytes_eq a.extra b.extra
 
 -- two profiles' keys are one
 abbrev pub same_nigori : NigoriValue → NigoriValue → Bool
 same_nigori a b =
     bytes_eq a.lock b.lock && pointwise same_nigori_key a.keys b.keys && same_pass_kind a.pass_kind b.pass_kind
 
--- two values are one: all their fields are
+-- two values are one: all their fields are, those that only a newer client knows too
 unfoldable pub same_value : Value → Value → Bool
 same_value Absent Absent = true
 same_value (Setting_value a) (Setting_value b) = same_preference a b
@@ -82,6 +82,13 @@ is_value_of Preference (Setting_value preference) = true
 is_value_of Password (Login_value password) = true
 is_value_of Nigori (Keys_value nigori) = true
 is_value_of _ _ = false
+
+-- the fields of a value that only a newer client knows; a deletion and a profile's keys have none
+abbrev pub extra_in : Value → List ℕ
+extra_in Absent = []
+extra_in (Setting_value preference) = preference.extra
+extra_in (Login_value password) = password.extra
+extra_in (Keys_value nigori) = []
 
 -- the keys that a value carries; only a profile's has any
 abbrev pub keys_in : Value → List NigoriKey

@@ -6,7 +6,7 @@ use Rattle.client_tags.specs.declared.Kind.TheVariants.{Nigori}
 use Rattle.sync_model.specs.declared.event.Event.{Event}
 use Rattle.sync_model.specs.declared.event.Event.TheVariants.{Edit, Cut, Turn, Gather, Post, Ask, Offer, Lose, Crash, Deliver, Answer, SetPass, GivePass}
 use Rattle.sync_model.specs.declared.event.EventOutcome.{EventOutcome}
-use Rattle.sync_model.specs.declared.event.EventOutcome.TheVariants.{Void, Done, Edited, Requested, Delivered}
+use Rattle.sync_model.specs.declared.event.EventOutcome.TheVariants.{Void, Requested, Delivered}
 use Rattle.sync_model.specs.declared.event.Schedule.{Schedule}
 use Rattle.sync_model.specs.declared.fate.Note.{Note}
 use Rattle.sync_model.specs.declared.fate.Settlement.{Settlement}
@@ -97,10 +97,7 @@ delivered world event (Requested client request) = record world {
   history = history_served is_invalid_entry STORE_BIRTHDAY world.history request;
   outcomes = Delivered event (reply_to is_invalid_entry STORE_BIRTHDAY world.history request) ∷ world.outcomes;
 }
-delivered world event Void = voided world
-delivered world event Done = voided world
-delivered world event (Edited client kind number) = voided world
-delivered world event (Delivered request reply) = voided world
+delivered world event _ = voided world
 
 -- the request that is waited for, if any, is that of an event
 abbrev pub is_awaited : Option ℕ → ℕ → Bool
@@ -113,18 +110,12 @@ replied world event reply (Requested client request) =
     if is_awaited (client_at world.clients client).outstanding event
     then affected world client (answer_effect request reply (client_at world.clients client))
     else voided world
-replied world event reply Void = voided world
-replied world event reply Done = voided world
-replied world event reply (Edited client kind number) = voided world
-replied world event reply (Delivered other others) = voided world
+replied world event reply _ = voided world
 
 -- the reply that a delivery gave reaches its client
 abbrev pub answered : World → EventOutcome → World
 answered world (Delivered request reply) = replied world request reply (outcome_at world.outcomes request)
-answered world Void = voided world
-answered world Done = voided world
-answered world (Edited client kind number) = voided world
-answered world (Requested client request) = voided world
+answered world _ = voided world
 
 -- an event of a client changes the world by what it makes of the client; no client has the number 0
 abbrev pub acted : World → ℕ → (Client → Option Effect) → World

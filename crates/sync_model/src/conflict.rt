@@ -5,6 +5,8 @@ use sync_values::Value;
 pub enum Row {
     /// The write has the own value.
     C1,
+    /// The write is an earlier own value, which this client offered.
+    C0,
     /// The key was deleted here, and written there.
     C2,
     /// The own value is what was known before.

@@ -14,15 +14,15 @@ pub use conflict::{Choice, Decision, Resolution, Row};
 pub use event::{Event, EventOutcome, Schedule};
 pub use fate::{Fate, Note, Settlement};
 pub use laws::{
-    every_caught_up_side_agrees, every_entry_writes_once, every_fate_is_true, every_write_is_based,
-    no_key_is_lost,
+    every_caught_up_side_agrees, every_entry_writes_once, every_fate_is_true,
+    every_own_echo_is_known, every_world_is_lawful, every_write_is_based, no_key_is_lost,
 };
 pub use message::{
     Ack, Answer, Batch, Call, Content, Entry, Key, Marker, Offer, Reply, Request, Task, Update,
     Updates, Verdict,
 };
 pub use refusal::{EditRefusal, PassRefusal};
-pub use state::{KeyState, Wanted};
+pub use state::{KeyState, Offered, Wanted};
 pub use sync_values::{Edit, Kind, Value};
 
 #[cfg(test)]

@@ -1,5 +1,12 @@
 use sync_values::Value;
-use wire_fields::Octets;
+use wire_fields::{List, Octets};
+
+/// An own value that a client offered to the server, with the number of its edit.
+#[derive(Debug, Drop)]
+pub struct Offered {
+    pub number: u64,
+    pub value: Value,
+}
 
 /// What a client knows of one key.
 #[derive(Debug, Drop)]
@@ -16,6 +23,8 @@ pub struct KeyState {
     pub last_edit: u64,
     /// The name of the key that seals what the server has.
     pub lock: Option<Octets>,
+    /// What was offered since that version became known, by ascending number; at most eight.
+    pub offered: List<Offered>,
 }
 
 /// How the entries of a type are to be sent.

@@ -24,3 +24,13 @@ fn has_a_law_on_keys() {
 fn has_the_law_of_fates() {
     every_fate_is_true();
 }
+
+#[test]
+fn has_all_laws() {
+    every_world_is_lawful();
+}
+
+#[test]
+fn has_the_law_of_echoes() {
+    every_own_echo_is_known();
+}
