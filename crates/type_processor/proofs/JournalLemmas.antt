@@ -1,17 +1,17 @@
 -- A change of a key is taken back by what there was before.
-use Rattle.std.proofs.Common.{◌≡◌, ℕ, Bool, true, false, cond, List, [], ◌∷◌, Option, Some, None, refl, sym, ap, ◌∙◌, subst}
+use Rattle.std.proofs.Common.{◌≡◌, ℕ, true, List, [], ◌∷◌, Option, Some, None, refl, sym, ap, ◌∙◌, subst}
 use Rattle.std.specs.Prelude.{is_some, IsTrue, unwrap_or}
-use Rattle.std.specs.Option.{IsSome}
-use Rattle.std.specs.BTreeMap.{is_at, insert_entry}
+use Rattle.std.specs.Option.{IsSome, option_map}
+use Rattle.std.specs.BTreeMap.{is_at}
 use Rattle.std.specs.Cmp.Lexicographic.{slice_cmp}
 use Rattle.std.specs.Map.{lookup, remove_entry}
-use Rattle.std.specs.Ordering.{nat_cmp, is_eq, match_ordering}
+use Rattle.std.specs.Ordering.{nat_cmp, match_ordering}
 use Rattle.std.specs.declared.cmp.Ordering.{Ordering}
 use Rattle.std.specs.declared.cmp.Ordering.TheVariants.{Less, Equal, Greater}
 use Rattle.entity_tracker.specs.Tracked.{Tracked}
 use Rattle.sync_model.specs.declared.state.KeyState.{KeyState}
 use Rattle.sync_model.specs.Sides.{States, has_state, with_state}
-use Rattle.type_processor.specs.Keyed.{hashes_of, found_at, tracker_with, tracker_at}
+use Rattle.type_processor.specs.Keyed.{hashes_of, key_of, found_at, key_with, key_at}
 use Rattle.type_processor.specs.declared.journal.Change.{Change}
 use Rattle.type_processor.specs.Journals.{IsChange, LeadsBack, LeadsBackBy}
 use Rattle.type_processor.proofs.KeyedEntries.{ties_itself}
@@ -29,23 +29,23 @@ pub has_put : (states : States) (hash : List ℕ) (state : KeyState) → IsTrue 
 has_put [] hash state = rw (ties_itself hash) refl
 has_put (e ∷ es) hash state = has_by hash state e es (with_state es hash state) (slice_cmp nat_cmp hash e.0) refl (has_put es hash state)
 
-abbrev pub nothing : Option Tracked
+abbrev pub nothing : Option (List ℕ × KeyState)
 nothing = None
 
-pub no_tracker : (hash : List ℕ) (found : Option KeyState) → nothing ≡ tracker_with hash found → found ≡ None
+pub no_tracker : (hash : List ℕ) (found : Option KeyState) → nothing ≡ key_with hash found → found ≡ None
 no_tracker hash None same = refl
 no_tracker hash (Some state) same = cc
 
-abbrev pub the_tracker : Tracked → Option Tracked
-the_tracker tracker = Some tracker
+abbrev pub the_key : Tracked → Option (List ℕ × KeyState)
+the_key tracker = Some (key_of tracker)
 
-pub tracker_hash : (hash : List ℕ) (found : Option KeyState) (tracker : Tracked) → the_tracker tracker ≡ tracker_with hash found → tracker.hash ≡ hash
+pub tracker_hash : (hash : List ℕ) (found : Option KeyState) (tracker : Tracked) → the_key tracker ≡ key_with hash found → tracker.hash ≡ hash
 tracker_hash hash None tracker same = cc
-tracker_hash hash (Some state) tracker same = ap (λ (found : Option Tracked). (unwrap_or found tracker).hash) same
+tracker_hash hash (Some state) tracker same = ap (λ (key : Option (List ℕ × KeyState)). (unwrap_or key (key_of tracker)).0) same
 
-pub tracker_found : (hash : List ℕ) (found : Option KeyState) (tracker : Tracked) → the_tracker tracker ≡ tracker_with hash found → found ≡ Some tracker.state
+pub tracker_found : (hash : List ℕ) (found : Option KeyState) (tracker : Tracked) → the_key tracker ≡ key_with hash found → found ≡ Some tracker.state
 tracker_found hash None tracker same = cc
-tracker_found hash (Some state) tracker same = sym (ap (λ (found : Option Tracked). Some (unwrap_or found tracker).state) same)
+tracker_found hash (Some state) tracker same = sym (ap (λ (key : Option (List ℕ × KeyState)). Some (unwrap_or key (key_of tracker)).1) same)
 
 -- a key that was new is taken out again
 pub back_to_none : (change : Change) (before after new : States) → change.before ≡ None
@@ -53,13 +53,13 @@ pub back_to_none : (change : Change) (before after new : States) → change.befo
 back_to_none change before after new none is_new change_is =
     is_new ∙ ap (remove_entry (is_at (slice_cmp nat_cmp change.hash.bytes))) change_is.put
     ∙ undo_new (slice_cmp nat_cmp) before change.hash.bytes change_is.state (ties_itself change.hash.bytes)
-    (no_tracker change.hash.bytes (found_at before change.hash.bytes) (sym none ∙ change_is.before_was))
+    (no_tracker change.hash.bytes (found_at before change.hash.bytes) (ap (option_map key_of) (sym none) ∙ change_is.before_was))
 
 -- a key that had a tracker has it again
 pub back_to_some : (change : Change) (before after new : States) (tracker : Tracked) → change.before ≡ Some tracker
     → (IsTrue (has_state after tracker.hash) → new ≡ with_state after tracker.hash tracker.state) → IsChange change before after → new ≡ before
 back_to_some change before after new tracker some is_new change_is =
-    let told : the_tracker tracker ≡ tracker_at before change.hash.bytes = sym some ∙ change_is.before_was in
+    let told : the_key tracker ≡ key_at before change.hash.bytes = ap (option_map key_of) (sym some) ∙ change_is.before_was in
     let hash : tracker.hash ≡ change.hash.bytes = tracker_hash change.hash.bytes (found_at before change.hash.bytes) tracker told in
     let found : found_at before change.hash.bytes ≡ Some tracker.state = tracker_found change.hash.bytes (found_at before change.hash.bytes) tracker told in
     is_new (rw (hash, change_is.put) (has_put before change.hash.bytes change_is.state))
@@ -81,13 +81,16 @@ pub goes_on : (change : Change) (rest all : List Change) (first now new : States
 goes_on change rest all first now new is change_is leads =
     subst (λ (changes : List Change). LeadsBack changes first new) (sym is) (record { before = now; change_is = change_is; rest_leads = leads })
 
-has_tracker : (hash : List ℕ) (found : Option KeyState) → IsTrue (is_some found) → IsSome (tracker_with hash found)
-has_tracker hash None has = cc
-has_tracker hash (Some state) has = refl
+has_tracker : (hash : List ℕ) (told : Option Tracked) (found : Option KeyState) → option_map key_of told ≡ key_with hash found
+    → IsTrue (is_some found) → IsSome told
+has_tracker hash told None is has = cc
+has_tracker hash None (Some state) is has = cc
+has_tracker hash (Some tracker) (Some state) is has = refl
 
 -- a key that is there had a tracker
-pub had_tracker : (states : States) (hash : List ℕ) (told : Option Tracked) → told ≡ tracker_at states hash → IsTrue (has_state states hash) → IsSome told
-had_tracker states hash told is has = subst IsSome (sym is) (has_tracker hash (found_at states hash) has)
+pub had_tracker : (states : States) (hash : List ℕ) (told : Option Tracked) → option_map key_of told ≡ key_at states hash → IsTrue (has_state states hash)
+    → IsSome told
+had_tracker states hash told is has = has_tracker hash told (found_at states hash) is has
 
 -- before the first change
 pub at_start : (changes : List Change) (states : States) → changes ≡ [] → LeadsBack changes states states

@@ -1,21 +1,22 @@
 -- The entries of a map of trackers, and the states that they stand for.
 use Rattle.std.proofs.Common.{◌≡◌, ℕ, Bool, true, false, cond, List, [], ◌∷◌, map, Option, Some, None, refl, sym, ap, ◌∙◌}
-use Rattle.std.specs.Prelude.{is_some, Result, Ok, Err, OnErr}
-use Rattle.std.specs.Option.{IsSome}
-use Rattle.std.specs.List.{AllByRecursion}
+use Rattle.std.specs.Prelude.{is_some, unwrap_or, Result, Ok, Err, OnErr}
+use Rattle.std.specs.Option.{option_map}
+use Rattle.std.specs.List.{All, AllByRecursion}
 use Rattle.std.specs.BTreeMap.{is_at, insert_entry}
 use Rattle.std.specs.Cmp.Lexicographic.{slice_cmp}
 use Rattle.std.specs.Map.{lookup, remove_entry, keys_of}
 use Rattle.std.specs.Ordering.{nat_cmp, is_eq, match_ordering}
 use Rattle.std.specs.declared.cmp.Ordering.{Ordering}
 use Rattle.std.specs.declared.cmp.Ordering.TheVariants.{Less, Equal, Greater}
+use Rattle.std.proofs.lemmas.List.Elements.{All-head, All-tail}
 use Rattle.std.proofs.lemmas.Slice.Eq.{bytes_eq-Decides}
 use Rattle.std.proofs.lemmas.Map.Text.{is_eq-slice_cmp}
 use Rattle.client_tags.specs.declared.hash.TagHash.{TagHash}
 use Rattle.entity_tracker.specs.Tracked.{Tracked}
 use Rattle.sync_model.specs.declared.state.KeyState.{KeyState}
 use Rattle.sync_model.specs.Sides.{States, has_state, with_state}
-use Rattle.type_processor.specs.Keyed.{state_of, states_of, hashes_of, AreKeyed, found_at, tracker_with, tracker_at}
+use Rattle.type_processor.specs.Keyed.{state_of, states_of, hashes_of, AreKeyed, HaveOwnHashes, key_of, found_at, key_with, key_at}
 
 -- what holds anyhow holds where there is a fault
 pub any_err : {A B : Type 0} {P : Type 0} (result : Result A B) → P → OnErr result P
@@ -65,28 +66,33 @@ states_insert (e ∷ es) key t =
     states_by key t e es (insert_entry by_hash es key t) (with_state (states_of es) key.bytes t.state) (by_hash key e.0) (states_insert es key t)
 
 found_by : (key : TagHash) (e : TagHash × Tracked) (found : Option Tracked) (other : Option KeyState) (tie : Bool)
-    → is_eq (by_hash key e.0) ≡ tie → e.1.hash ≡ e.0.bytes → found ≡ tracker_with key.bytes other
-    → cond tie (Some e.1) found ≡ tracker_with key.bytes (cond tie (Some e.1.state) other)
+    → is_eq (by_hash key e.0) ≡ tie → e.1.hash ≡ e.0.bytes → option_map key_of found ≡ key_with key.bytes other
+    → option_map key_of (cond tie (Some e.1) found) ≡ key_with key.bytes (cond tie (Some e.1.state) other)
 found_by key e found other true is own same =
-    ap (λ (hash : List ℕ). tracker_with hash (Some e.1.state)) (own ∙ sym (same_bytes key.bytes e.0.bytes is))
+    ap (λ (hash : List ℕ). key_with hash (Some e.1.state)) (own ∙ sym (same_bytes key.bytes e.0.bytes is))
 found_by key e found other false is own same = same
 
 -- the tracker that a map has at a key
 pub found_tracker : (es : Entries) (key : TagHash) → AreKeyed es
-    → lookup (is_at (by_hash key)) es ≡ tracker_at (states_of es) key.bytes
+    → option_map key_of (lookup (is_at (by_hash key)) es) ≡ key_at (states_of es) key.bytes
 found_tracker [] key keyed = refl
 found_tracker (e ∷ es) key keyed =
     found_by key e (lookup (is_at (by_hash key)) es) (found_at (states_of es) key.bytes) (is_eq (by_hash key e.0)) refl keyed.0
     (found_tracker es key keyed.1)
 
-has_by : (hash : List ℕ) (found : Option KeyState) → is_some (tracker_with hash found) ≡ is_some found
+is_mapped : (found : Option Tracked) → is_some found ≡ is_some (option_map key_of found)
+is_mapped None = refl
+is_mapped (Some tracker) = refl
+
+has_by : (hash : List ℕ) (found : Option KeyState) → is_some (key_with hash found) ≡ is_some found
 has_by hash None = refl
 has_by hash (Some state) = refl
 
 -- a map has a key where its state is there
 pub found_some : (es : Entries) (key : TagHash) → AreKeyed es
     → is_some (lookup (is_at (by_hash key)) es) ≡ has_state (states_of es) key.bytes
-found_some es key keyed = ap is_some (found_tracker es key keyed) ∙ has_by key.bytes (found_at (states_of es) key.bytes)
+found_some es key keyed =
+    is_mapped (lookup (is_at (by_hash key)) es) ∙ ap is_some (found_tracker es key keyed) ∙ has_by key.bytes (found_at (states_of es) key.bytes)
 
 keyed_without : (e : TagHash × Tracked) (es rest : Entries) (tie : Bool) → AreKeyed (e ∷ es) → AreKeyed rest → AreKeyed (cond tie es (e ∷ rest))
 keyed_without e es rest true keyed others = keyed.1
@@ -118,3 +124,24 @@ hashes_by_keys (e ∷ es) = ap (λ (hashes : List (List ℕ)). e.0.bytes ∷ has
 pub same_hashes : (old new : Entries) → keys_of new ≡ keys_of old → hashes_of (states_of new) ≡ hashes_of (states_of old)
 same_hashes old new same =
     hashes_by_keys new ∙ ap (map (λ (key : TagHash). key.bytes)) same ∙ sym (hashes_by_keys old)
+
+the_state : (hash : List ℕ) (found : Option KeyState) (tracker : Tracked) → key_with hash found ≡ Some (key_of tracker) → found ≡ Some tracker.state
+the_state hash None tracker same = cc
+the_state hash (Some state) tracker same = ap (λ (key : Option (List ℕ × KeyState)). Some (unwrap_or key (key_of tracker)).1) same
+
+abbrev FoundIn : Entries → TagHash × Tracked → Type 0
+FoundIn all e = lookup (is_at (by_hash e.0)) all ≡ Some e.1
+
+own_hashes_by : (all es : Entries) → AreKeyed all → All (FoundIn all) es
+    → AllByRecursion (λ (key : List ℕ × KeyState). found_at (states_of all) key.0 ≡ Some key.1) (states_of es)
+own_hashes_by all [] keyed found = tt
+own_hashes_by all (e ∷ es) keyed found = (
+  the_state e.0.bytes (found_at (states_of all) e.0.bytes) e.1
+      (sym (found_tracker all e.0 keyed) ∙ ap (option_map key_of) (All-head (FoundIn all) e es found)),
+  own_hashes_by all es keyed (All-tail (FoundIn all) e es found),
+)
+
+-- the keys of a map have hashes of their own
+pub own_hashes : (es : Entries) → AreKeyed es → All (λ (e : TagHash × Tracked). lookup (is_at (by_hash e.0)) es ≡ Some e.1) es
+    → HaveOwnHashes (states_of es)
+own_hashes es keyed found = own_hashes_by es es keyed found

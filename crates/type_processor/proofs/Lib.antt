@@ -1,4 +1,5 @@
 mod AckLemmas
+mod ChangedKeys
 mod EntryChanges
 mod JournalLemmas
 mod KeyedEntries
@@ -7,4 +8,5 @@ mod StableSorts
 mod OfferLemmas
 mod Soundness
 mod OffersFit
+mod NoteLemmas
 mod Mailboxes

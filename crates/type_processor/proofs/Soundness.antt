@@ -1,40 +1,45 @@
 -- The states of a type stay those of the type.
-use Rattle.std.proofs.Common.{◌≡◌, ℕ, ◌+◌, ◌≤◌, ◌<◌, arith, Bool, true, false, cond, not, List, [], ◌∷◌, Option, Some, None, refl, sym, ap, ◌∙◌}
-use Rattle.std.specs.Prelude.{is_some, IsTrue, unwrap_or, ◌&&◌, ◌||◌, if◌then◌else◌}
+use Rattle.std.proofs.Common.{◌≡◌, ℕ, ◌+◌, ◌≤◌, ◌<◌, arith, Bool, true, false, cond, not, List, [], ◌∷◌, Option, Some, None, refl}
+use Rattle.std.specs.Prelude.{is_some, nat_le, IsTrue, IfSome, unwrap_or, ◌&&◌, ◌||◌, if◌then◌else◌}
 use Rattle.std.specs.List.{AllByRecursion}
 use Rattle.std.specs.BTreeMap.{is_at}
 use Rattle.std.specs.Cmp.Lexicographic.{slice_cmp}
-use Rattle.std.specs.Map.{lookup, set_value}
-use Rattle.std.specs.Ordering.{nat_cmp, is_eq, match_ordering}
+use Rattle.std.specs.Map.{lookup}
+use Rattle.std.specs.Ordering.{nat_cmp, match_ordering}
 use Rattle.std.specs.declared.cmp.Ordering.{Ordering}
 use Rattle.std.specs.declared.cmp.Ordering.TheVariants.{Less, Equal, Greater}
 use Rattle.client_tags.specs.declared.Kind.{Kind}
 use Rattle.client_tags.specs.Hashes.{IsHash}
+use Rattle.sync_values.specs.declared.edit.Edit.{Edit}
+use Rattle.sync_values.specs.declared.edit.Edit.TheVariants.{SetPreference, NewerPreference, DeletePreference, SetPassword, NewerPassword, DeletePassword, SetNigori}
 use Rattle.sync_values.specs.declared.value.Value.{Value}
 use Rattle.sync_model.specs.declared.conflict.Choice.{Choice}
 use Rattle.sync_model.specs.declared.conflict.Choice.TheVariants.{Same, Remote, Local, Merged as MergedInto}
 use Rattle.sync_model.specs.declared.conflict.Decision.{Decision}
 use Rattle.sync_model.specs.declared.conflict.Decision.TheVariants.{Remote as TakeRemote, Local as KeepLocal, Merged as Merge}
-use Rattle.sync_model.specs.declared.conflict.Row.TheVariants.{C1, C2, C3, C4, C5, C6}
+use Rattle.sync_model.specs.declared.conflict.Row.TheVariants.{C0, C1, C2, C3, C4, C5, C6}
 use Rattle.sync_model.specs.declared.message.Ack.{Ack}
+use Rattle.sync_model.specs.declared.message.Offer.{Offer}
 use Rattle.sync_model.specs.declared.message.Task.{Task}
 use Rattle.sync_model.specs.declared.message.Task.TheVariants.{Batch as Updating, Acks}
 use Rattle.sync_model.specs.declared.message.Update.{Update}
 use Rattle.sync_model.specs.declared.state.KeyState.{KeyState}
 use Rattle.sync_model.specs.Conflicts.{row_of, choice_of, choice_by}
-use Rattle.sync_model.specs.KeyStates.{new_state, is_old, accepted, settled, resolution_of, updated, is_ignored, still_due, acknowledged, edited}
-use Rattle.sync_model.specs.Sides.{States, state_at, with_state, replaced, after_update, after_updates, after_ack, after_acks}
+use Rattle.sync_model.specs.Edits.{edit_kind, edit_value}
+use Rattle.sync_model.specs.KeyStates.{new_state, is_echo, is_old, accepted, settled, resolution_of, updated, is_ignored, still_due, acknowledged, edited, noted}
+use Rattle.sync_model.specs.Sides.{States, state_at, with_state, after_update, after_updates, after_ack, after_acks, after_offer, after_offers}
 use Rattle.sync_model.specs.Values.{same_value, is_absent, is_value_of}
 use Rattle.conflict_rules.specs.Rules.{KeepsEachType}
-use Rattle.type_processor.specs.Fits.{may_have, IsUpdateOf, IsAckOf, IsTaskOf, IsStateOf, AreStatesOf, HaveHashes, AcksHaveHashes, TaskHasHashes}
+use Rattle.type_processor.specs.Fits.{may_have, IsUpdateOf, IsAckOf, IsTaskOf, IsStateOf, AreStatesOf, HaveHashes, AcksHaveHashes, OffersHaveHashes, TaskHasHashes}
 use Rattle.type_processor.specs.Turns.{states_after}
 
 new_is : (kind : Kind) (last : ℕ) (hash : List ℕ) → IsHash hash → IsStateOf kind last (hash, new_state)
-new_is kind last hash is = record { hash = is; known = omega arith; base = refl; own = refl; edit = omega arith }
+new_is kind last hash is = record { hash = is; known = omega arith; base = refl; own = refl; edit = omega arith; due = tt }
 
 -- the same of another hash
 at_hash : (kind : Kind) (last : ℕ) (hash : List ℕ) (key : List ℕ × KeyState) → IsHash hash → IsStateOf kind last key → IsStateOf kind last (hash, key.1)
-at_hash kind last hash key is state = record { hash = is; known = state.known; base = state.base; own = state.own; edit = state.edit }
+at_hash kind last hash key is state =
+    record { hash = is; known = state.known; base = state.base; own = state.own; edit = state.edit; due = state.due }
 
 by_tie : (kind : Kind) (last : ℕ) (hash : List ℕ) (e : List ℕ × KeyState) (found : Option KeyState) (tie : Bool) → IsHash hash
     → IsStateOf kind last e → IsStateOf kind last (hash, unwrap_or found new_state)
@@ -63,18 +68,6 @@ put_are kind last hash state [] own are = (own, tt)
 put_are kind last hash state (e ∷ es) own are =
     put_by kind last hash state e es (with_state es hash state) (slice_cmp nat_cmp hash e.0) own are (put_are kind last hash state es own are.1)
 
-set_by : (kind : Kind) (last : ℕ) (hash : List ℕ) (state : KeyState) (e : List ℕ × KeyState) (es rest : States) (tie : Bool)
-    → IsStateOf kind last (hash, state) → AreStatesOf kind last (e ∷ es) → AreStatesOf kind last rest
-    → AreStatesOf kind last (cond tie ((e.0, state) ∷ es) (e ∷ rest))
-set_by kind last hash state e es rest true own are others = (at_hash kind last e.0 (hash, state) are.0.hash own, are.1)
-set_by kind last hash state e es rest false own are others = (are.0, others)
-
-set_are : (kind : Kind) (last : ℕ) (hash : List ℕ) (state : KeyState) (states : States)
-    → IsStateOf kind last (hash, state) → AreStatesOf kind last states → AreStatesOf kind last (replaced states hash state)
-set_are kind last hash state [] own are = tt
-set_are kind last hash state (e ∷ es) own are =
-    set_by kind last hash state e es (replaced es hash state) (is_at (slice_cmp nat_cmp hash) e.0) own are (set_are kind last hash state es own are.1)
-
 -- a choice merges into a value of the type, if it merges
 abbrev Merges : Kind → Choice → Type 0
 Merges kind Same = Unit {0}
@@ -95,15 +88,16 @@ own_present true true both none = cc
 own_present true false both none = cc
 own_present false remote both none = refl
 
-merges_by : (kind : Kind) (same deleted own_known known absent : Bool) (decision : Decision)
+merges_by : (kind : Kind) (same echo deleted own_known known absent : Bool) (decision : Decision)
     → (deleted ≡ false → absent ≡ false → Merges kind (choice_by decision))
-    → Merges kind (choice_of (if same then C1 else (if deleted then C2 else (if own_known then C3 else (if known then C4 else (if absent then C5 else C6))))) decision)
-merges_by kind true deleted own_known known absent decision merges = tt
-merges_by kind false true own_known known absent decision merges = tt
-merges_by kind false false true known absent decision merges = tt
-merges_by kind false false false true absent decision merges = tt
-merges_by kind false false false false true decision merges = tt
-merges_by kind false false false false false decision merges = merges refl refl
+    → Merges kind (choice_of (if same then C1 else (if echo then C0 else (if deleted then C2 else (if own_known then C3 else (if known then C4 else (if absent then C5 else C6)))))) decision)
+merges_by kind true echo deleted own_known known absent decision merges = tt
+merges_by kind false true deleted own_known known absent decision merges = tt
+merges_by kind false false true own_known known absent decision merges = tt
+merges_by kind false false false true known absent decision merges = tt
+merges_by kind false false false false true absent decision merges = tt
+merges_by kind false false false false false true decision merges = tt
+merges_by kind false false false false false false decision merges = merges refl refl
 
 decision_merges : (kind : Kind) (decided : Value → Value → Decision) (own remote : Value) (decision : Decision) → KeepsEachType decided
     → decided own remote ≡ decision → IsTrue (is_value_of kind own) → IsTrue (is_value_of kind remote) → Merges kind (choice_by decision)
@@ -112,12 +106,12 @@ decision_merges kind decided own remote KeepLocal keeps is own_is remote_is = tt
 decision_merges kind decided own remote (Merge value) keeps is own_is remote_is =
     either (is_absent value) (is_value_of kind value) (keeps kind own remote value own_is remote_is is)
 
-choice_merges : (kind : Kind) (decided : Value → Value → Decision) (base own remote : Value) → KeepsEachType decided
+choice_merges : (kind : Kind) (decided : Value → Value → Decision) (echo : Bool) (base own remote : Value) → KeepsEachType decided
     → IsTrue (may_have kind own) → IsTrue (may_have kind remote)
-    → Merges kind (choice_of (row_of base own remote) (decided own remote))
+    → Merges kind (choice_of (row_of echo base own remote) (decided own remote))
 unfolding row_of
-choice_merges kind decided base own remote keeps own_is remote_is =
-    merges_by kind (same_value own remote) (is_absent own && not (is_absent remote)) (same_value own base) (same_value remote base) (is_absent remote)
+choice_merges kind decided echo base own remote keeps own_is remote_is =
+    merges_by kind (same_value own remote) echo (is_absent own && not (is_absent remote)) (same_value own base) (same_value remote base) (is_absent remote)
     (decided own remote)
     (λ deleted absent. decision_merges kind decided own remote (decided own remote) keeps refl
     (present (is_absent own) (is_value_of kind own) (own_present (is_absent own) (is_absent remote) deleted absent) own_is)
@@ -126,16 +120,16 @@ choice_merges kind decided base own remote keeps own_is remote_is =
 accepted_is : (kind : Kind) (last : ℕ) (hash : List ℕ) (state : KeyState) (update : Update)
     → IsStateOf kind last (hash, state) → IsUpdateOf kind update → IsStateOf kind last (hash, accepted state update)
 accepted_is kind last hash state update own is =
-    record { hash = own.hash; known = is.version; base = is.value; own = is.value; edit = own.edit }
+    record { hash = own.hash; known = is.version; base = is.value; own = is.value; edit = own.edit; due = tt }
 
 settled_is : (kind : Kind) (last : ℕ) (hash : List ℕ) (state : KeyState) (update : Update) (choice : Choice)
     → IsStateOf kind last (hash, state) → IsUpdateOf kind update → Merges kind choice → IsStateOf kind last (hash, settled state update choice)
 settled_is kind last hash state update Same own is merges = accepted_is kind last hash state update own is
 settled_is kind last hash state update Remote own is merges = accepted_is kind last hash state update own is
 settled_is kind last hash state update Local own is merges =
-    record { hash = own.hash; known = is.version; base = is.value; own = own.own; edit = own.edit }
+    record { hash = own.hash; known = is.version; base = is.value; own = own.own; edit = own.edit; due = own.due }
 settled_is kind last hash state update (MergedInto value) own is merges =
-    record { hash = own.hash; known = is.version; base = is.value; own = merges; edit = own.edit }
+    record { hash = own.hash; known = is.version; base = is.value; own = merges; edit = own.edit; due = own.due }
 
 one_of : (P : KeyState → Type 0) (test : Bool) (a b : KeyState) → P a → P b → P (if test then a else b)
 one_of P true a b at_a at_b = at_a
@@ -149,18 +143,18 @@ updated_is kind last hash decided state update keeps own is =
     one_of P (is_old state update) state _ own
     (one_of P (is_some state.due) (settled state update (resolution_of decided state update).choice) (accepted state update)
     (settled_is kind last hash state update (resolution_of decided state update).choice own is
-    (choice_merges kind decided state.base state.own update.value keeps own.own is.value))
+    (choice_merges kind decided (is_echo state update.value) state.base state.own update.value keeps own.own is.value))
     (accepted_is kind last hash state update own is))
 
-update_are_by : (kind : Kind) (last : ℕ) (old : Bool) (a b : States) → AreStatesOf kind last a → AreStatesOf kind last b → AreStatesOf kind last (if old then a else b)
-update_are_by kind last true a b at_a at_b = at_a
-update_are_by kind last false a b at_a at_b = at_b
+are_by : (kind : Kind) (last : ℕ) (old : Bool) (a b : States) → AreStatesOf kind last a → AreStatesOf kind last b → AreStatesOf kind last (if old then a else b)
+are_by kind last true a b at_a at_b = at_a
+are_by kind last false a b at_a at_b = at_b
 
 update_are : (kind : Kind) (last : ℕ) (decided : Value → Value → Decision) (states : States) (update : Update) → KeepsEachType decided
     → AreStatesOf kind last states → IsUpdateOf kind update → AreStatesOf kind last (after_update decided states update)
 unfolding after_update
 update_are kind last decided states update keeps are is =
-    update_are_by kind last (is_old (state_at states update.hash) update) states
+    are_by kind last (is_old (state_at states update.hash) update) states
     (with_state states update.hash (updated decided (state_at states update.hash) update)) are
     (put_are kind last update.hash (updated decided (state_at states update.hash) update) states
     (updated_is kind last update.hash decided (state_at states update.hash) update keeps (state_is kind last update.hash states is.hash are) is) are)
@@ -177,6 +171,14 @@ own_acked : (kind : Kind) (due : Bool) (own acked : Value) → IsTrue (may_have 
 own_acked kind true own acked own_is acked_is = own_is
 own_acked kind false own acked own_is acked_is = acked_is
 
+due_unless : (past : Bool) (due last : ℕ) → due ≡ last → IfSome (if past then None else Some due) (λ (number : ℕ). number ≡ last)
+due_unless true due last is = tt
+due_unless false due last is = is
+
+still_due_is : (due : Option ℕ) (number last : ℕ) → IfSome due (λ (edit : ℕ). edit ≡ last) → IfSome (still_due due number) (λ (edit : ℕ). edit ≡ last)
+still_due_is None number last is = tt
+still_due_is (Some due) number last is = due_unless (nat_le due number) due last is
+
 acknowledged_is : (kind : Kind) (last : ℕ) (hash : List ℕ) (state : KeyState) (ack : Ack)
     → IsStateOf kind last (hash, state) → IsAckOf kind ack → IsStateOf kind last (hash, acknowledged state ack)
 unfolding acknowledged
@@ -188,16 +190,24 @@ acknowledged_is kind last hash state ack own is =
       base = is.value;
       own = own_acked kind (is_some (still_due state.due ack.number)) state.own ack.value own.own is.value;
       edit = own.edit;
+      due = still_due_is state.due ack.number state.last_edit own.due;
     })
+
+ack_are : (kind : Kind) (last : ℕ) (states : States) (ack : Ack) → AreStatesOf kind last states → IsAckOf kind ack
+    → AreStatesOf kind last (after_ack states ack)
+unfolding after_ack
+ack_are kind last states ack are is =
+    are_by kind last (is_ignored (state_at states ack.hash) ack) states
+    (with_state states ack.hash (acknowledged (state_at states ack.hash) ack)) are
+    (put_are kind last ack.hash (acknowledged (state_at states ack.hash) ack) states
+    (acknowledged_is kind last ack.hash (state_at states ack.hash) ack (state_is kind last ack.hash states is.hash are) is) are)
 
 acks_are : (kind : Kind) (last : ℕ) (states : States) (acks : List Ack)
     → AreStatesOf kind last states → AllByRecursion (IsAckOf kind) acks → AreStatesOf kind last (after_acks states acks)
-unfolding after_acks after_ack
+unfolding after_acks
 acks_are kind last states [] are is = are
 acks_are kind last states (ack ∷ acks) are is =
-    acks_are kind last (replaced states ack.hash (acknowledged (state_at states ack.hash) ack)) acks
-    (set_are kind last ack.hash (acknowledged (state_at states ack.hash) ack) states
-    (acknowledged_is kind last ack.hash (state_at states ack.hash) ack (state_is kind last ack.hash states is.0.hash are) is.0) are) is.1
+    acks_are kind last (after_ack states ack) acks (ack_are kind last states ack are is.0) is.1
 
 -- the states after a task of the type
 pub task_are : (kind : Kind) (last : ℕ) (decided : Value → Value → Decision) (states : States) (task : Task) → KeepsEachType decided
@@ -221,7 +231,7 @@ task_hashes kind (Acks acks) is = ack_hashes kind acks is
 later_are : (kind : Kind) (last more : ℕ) (states : States) → last ≤ more → AreStatesOf kind last states → AreStatesOf kind more states
 later_are kind last more [] less are = tt
 later_are kind last more (e ∷ es) less are =
-    (record { hash = are.0.hash; known = are.0.known; base = are.0.base; own = are.0.own; edit = omega (arith, are.0.edit, less) }, later_are kind last more es less are.1)
+    (record { hash = are.0.hash; known = are.0.known; base = are.0.base; own = are.0.own; edit = omega (arith, are.0.edit, less); due = are.0.due }, later_are kind last more es less are.1)
 
 -- the states after an edit, which has the next number
 pub edit_are : (kind : Kind) (last : ℕ) (hash : List ℕ) (value : Value) (states : States) → IsHash hash → IsTrue (may_have kind value)
@@ -230,9 +240,35 @@ edit_are kind last hash value states is value_is are =
     let more : AreStatesOf kind (last + 1) states = later_are kind last (last + 1) states (omega arith) are in
     let own : IsStateOf kind (last + 1) (hash, state_at states hash) = state_is kind (last + 1) hash states is more in
     put_are kind (last + 1) hash (edited (state_at states hash) value (last + 1)) states
-    (record { hash = is; known = own.known; base = own.base; own = value_is; edit = omega arith }) more
+    (record { hash = is; known = own.known; base = own.base; own = value_is; edit = omega arith; due = refl }) more
 
 -- no edit of a key has the next number
 pub next_number : (kind : Kind) (last : ℕ) (hash : List ℕ) (states : States) → IsHash hash → AreStatesOf kind last states
     → (state_at states hash).last_edit < last + 1
 next_number kind last hash states is are = omega (arith, (state_is kind last hash states is are).edit)
+
+-- what an edit makes of an own value is of the edit's type
+pub edit_value_is : (own : Value) (edit : Edit) → IsTrue (may_have (edit_kind edit) (edit_value own edit))
+edit_value_is own (SetPreference preference) = refl
+edit_value_is own (NewerPreference preference) = refl
+edit_value_is own (DeletePreference name) = refl
+edit_value_is own (SetPassword login) = refl
+edit_value_is own (NewerPassword login) = refl
+edit_value_is own (DeletePassword origin user_element user_value pass_element realm) = refl
+edit_value_is own (SetNigori nigori) = refl
+
+offered_is : (kind : Kind) (last : ℕ) (hash : List ℕ) (state : KeyState) (number : ℕ) (value : Value)
+    → IsStateOf kind last (hash, state) → IsStateOf kind last (hash, noted state number value)
+unfolding noted
+offered_is kind last hash state number value own =
+    record { hash = own.hash; known = own.known; base = own.base; own = own.own; edit = own.edit; due = own.due }
+
+-- the states once some values were offered
+pub offers_kept_are : (kind : Kind) (last : ℕ) (states : States) (offers : List Offer) → AreStatesOf kind last states → OffersHaveHashes offers
+    → AreStatesOf kind last (after_offers states offers)
+unfolding after_offers
+offers_kept_are kind last states [] are hashes = are
+offers_kept_are kind last states (offer ∷ offers) are hashes =
+    offers_kept_are kind last (after_offer states offer) offers
+    (put_are kind last offer.hash (noted (state_at states offer.hash) offer.number offer.value) states
+    (offered_is kind last offer.hash (state_at states offer.hash) offer.number offer.value (state_is kind last offer.hash states hashes.0 are)) are) hashes.1

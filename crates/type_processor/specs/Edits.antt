@@ -1,12 +1,15 @@
 -- What an edit makes of a type, and why it is refused.
-use Rattle.std.specs.Prelude.{◌≡◌, ℕ, ◌+◌, ◌-◌, ◌^◌, ◌≤◌, min, List, Option, Some, None}
+use Rattle.std.specs.Prelude.{◌≡◌, ℕ, ◌+◌, ◌-◌, ◌^◌, min, Bool, not, IsTrue, List, Option, Some, None}
 use Rattle.client_tags.specs.Hashes.{tag_hash}
+use Rattle.client_tags.specs.declared.Kind.TheVariants.{Password}
 use Rattle.sync_values.specs.declared.edit.Edit.{Edit}
+use Rattle.sync_values.specs.declared.value.Value.{Value}
 use Rattle.sync_model.specs.declared.refusal.EditRefusal.{EditRefusal}
 use Rattle.sync_model.specs.declared.refusal.EditRefusal.TheVariants.{TooLong, Full}
-use Rattle.sync_model.specs.Changes.{MAX_TEXT, side_refusal}
+use Rattle.sync_model.specs.Changes.{own_at, edit_refusal_at}
 use Rattle.sync_model.specs.Edits.{edit_kind, edit_tag, edit_value, edit_length}
 use Rattle.sync_model.specs.Sides.{state_at, side_edited}
+use Rattle.sync_model.specs.Values.{same_kind}
 use Rattle.type_processor.specs.declared.answers.EditFault.{EditFault}
 use Rattle.type_processor.specs.declared.answers.EditFault.TheVariants.{TooLong as FoundLong, Full as FoundFull, NoMemory}
 use Rattle.type_processor.specs.declared.answers.Edited.{Edited}
@@ -16,13 +19,18 @@ use Rattle.type_processor.specs.Processed.{Processed, side_of, with_side}
 abbrev pub edit_hash : Edit → List ℕ
 edit_hash edit = tag_hash (edit_kind edit) (edit_tag edit)
 
+-- the own value of what an edit changes
+abbrev pub own_before : {Rules : Type 0} → Processed Rules → Edit → Value
+own_before processed edit = own_at (side_of processed) (edit_hash edit)
+
 -- why an edit is refused, if it is
 abbrev pub refusal_of : {Rules : Type 0} → Processed Rules → Edit → Option EditRefusal
-refusal_of processed edit = side_refusal (side_of processed) (edit_hash edit) (edit_length edit)
+refusal_of processed edit = edit_refusal_at (side_of processed) (edit_hash edit) edit
 
 -- what is had of a type after an edit
 abbrev pub edited_by : {Rules : Type 0} → Processed Rules → Edit → Processed Rules
-edited_by processed edit = with_side processed (side_edited (side_of processed) (edit_hash edit) (edit_value edit))
+edited_by processed edit =
+    with_side processed (side_edited (side_of processed) (edit_hash edit) (edit_value (own_before processed edit) edit))
 
 -- what is told of an edit: its number, and that of the due edit that it follows
 abbrev pub edit_told : {Rules : Type 0} → Processed Rules → Edit → Edited
@@ -35,13 +43,18 @@ edit_told processed edit = record {
 abbrev pub told_length : ℕ → ℕ
 told_length len = min len (2 ^ 64 - 1)
 
--- A fault is the one that the cause of refusal tells. Memory may be wanting for an edit of texts that are not too
--- long.
-abbrev pub IsFaultOf : Option EditRefusal → ℕ → EditFault → Type 0
-IsFaultOf refusal len (FoundLong told) = (refusal ≡ Some (TooLong len)) × (told ≡ told_length len)
-IsFaultOf refusal len (FoundFull count) = refusal ≡ Some (Full count)
-IsFaultOf refusal len NoMemory = len ≤ MAX_TEXT
+-- the key of an edit is found without memory: only the tag of a login is put together
+abbrev pub is_found_at_once : Edit → Bool
+is_found_at_once edit = not (same_kind (edit_kind edit) Password)
+
+-- A fault is the one that the cause of refusal tells. Memory may be wanting for an edit that is not refused, or to find its
+-- key.
+abbrev pub IsFaultOf : Bool → Option EditRefusal → ℕ → EditFault → Type 0
+IsFaultOf found refusal len (FoundLong told) = (refusal ≡ Some (TooLong len)) × (told ≡ told_length len)
+IsFaultOf found refusal len (FoundFull count) = refusal ≡ Some (Full count)
+IsFaultOf found refusal len NoMemory = IsTrue found → refusal ≡ None
 
 -- the fault of an edit
 abbrev pub IsFaultAt : {Rules : Type 0} → Processed Rules → Edit → EditFault → Type 0
-IsFaultAt processed edit fault = IsFaultOf (refusal_of processed edit) (edit_length edit) fault
+IsFaultAt processed edit fault =
+    IsFaultOf (is_found_at_once edit) (refusal_of processed edit) (edit_length (own_before processed edit) edit) fault

@@ -1,16 +1,16 @@
 -- How the states that a turn changes lead back to those that it began with.
 use Rattle.std.specs.Prelude.{◌≡◌, List, [], ◌∷◌}
-use Rattle.std.specs.Option.{IsSome}
+use Rattle.std.specs.Option.{IsSome, option_map}
 use Rattle.sync_model.specs.declared.state.KeyState.{KeyState}
 use Rattle.sync_model.specs.Sides.{States, with_state}
 use Rattle.type_processor.specs.declared.journal.Change.{Change}
-use Rattle.type_processor.specs.Keyed.{hashes_of, tracker_at}
+use Rattle.type_processor.specs.Keyed.{hashes_of, key_of, key_at}
 
 -- one change leads back: a state was put at its key, where there was what it tells, and other keys stayed
 pub record IsChange (change : Change) (before after : States) : Type 0 where
   pub state : KeyState
   pub put : after ≡ with_state before change.hash.bytes state
-  pub before_was : change.before ≡ tracker_at before change.hash.bytes
+  pub before_was : option_map key_of change.before ≡ key_at before change.hash.bytes
   pub kept : IsSome change.before → hashes_of after ≡ hashes_of before
 
 -- changes, the last one first, lead back from some states to the first ones

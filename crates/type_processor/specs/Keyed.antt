@@ -26,23 +26,23 @@ AreKeyed entries = AllByRecursion (λ entry. entry.1.hash ≡ entry.0.bytes) ent
 abbrev pub hashes_of : States → List (List ℕ)
 hashes_of states = map (λ key. key.0) states
 
--- a key's tracker
-abbrev pub tracked_at : List ℕ × KeyState → Tracked
-tracked_at key = record { hash = key.0; state = key.1 }
-
--- the trackers of some keys
-abbrev pub trackers_of : States → List Tracked
-trackers_of states = map tracked_at states
+-- a tracker's key and its state
+abbrev pub key_of : Tracked → List ℕ × KeyState
+key_of tracked = (tracked.hash, tracked.state)
 
 -- what there is of a key, if it has a state
 abbrev pub found_at : States → List ℕ → Option KeyState
 found_at states hash = lookup (is_at (slice_cmp nat_cmp hash)) states
 
--- the tracker of a key that has this state, if it has one
-abbrev pub tracker_with : List ℕ → Option KeyState → Option Tracked
-tracker_with hash None = None
-tracker_with hash (Some state) = Some (record { hash = hash; state = state })
+-- a key and this state, if it has one
+abbrev pub key_with : List ℕ → Option KeyState → Option (List ℕ × KeyState)
+key_with hash None = None
+key_with hash (Some state) = Some (hash, state)
 
--- the tracker of a key, if it has a state
-abbrev pub tracker_at : States → List ℕ → Option Tracked
-tracker_at states hash = tracker_with hash (found_at states hash)
+-- a key and its state, if it has one
+abbrev pub key_at : States → List ℕ → Option (List ℕ × KeyState)
+key_at states hash = key_with hash (found_at states hash)
+
+-- each key is found by its hash: no two have one
+abbrev pub HaveOwnHashes : States → Type 0
+HaveOwnHashes states = AllByRecursion (λ (key : List ℕ × KeyState). found_at states key.0 ≡ Some key.1) states

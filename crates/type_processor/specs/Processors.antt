@@ -1,5 +1,4 @@
 -- What a processor stands for.
-use Rattle.std.specs.Prelude.{ℕ}
 use Rattle.std.specs.List.{AllByRecursion}
 use Rattle.type_processor.specs.declared.processor.Processor.TheInside.{Inside}
 use Rattle.type_processor.specs.Fits.{IsTaskOf, AreStatesOf}

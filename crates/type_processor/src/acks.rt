@@ -1,10 +1,11 @@
 //! What acknowledgements make of the trackers.
-ghost use Rattle.std.specs.Prelude.{◌≡◌, option_to_list, IfOk, OnOk, OnErr};
+ghost use Rattle.std.specs.Prelude.{◌≡◌, false, option_to_list, IfOk, OnOk, OnErr};
 ghost use Rattle.client_tags.specs.Hashes.{IsHash};
-ghost use Rattle.sync_model.specs.KeyStates.{acknowledged, ended};
+ghost use Rattle.sync_model.specs.KeyStates.{acknowledged, ended, is_ignored};
 ghost use Rattle.sync_model.specs.Sides.{States, state_at, note_of, after_ack, after_acks, notes_of};
 ghost use Rattle.type_processor.specs.Fits.{AcksHaveHashes};
 ghost use Rattle.type_processor.specs.Journals.{LeadsBack};
+ghost use Rattle.type_processor.specs.Keyed.{key_of};
 
 use crate::edits::hash_in;
 use crate::journal::{Change, put_changed, take_all_back};
@@ -28,16 +29,21 @@ fn copied(ack: &Ack) -> Result<Ack, NoMemory>
     })
 }
 
+// An acknowledgement is old, or of an edit that was not made.
+fn is_ignored(tracker: &Tracker, ack: &Ack) -> bool
+    ensures { result ≡ is_ignored tracker.now.state ack.now }
+{
+    ack.version <= tracker.known() || ack.number > tracker.sequence()
+}
+
 // What an acknowledgement makes of a tracker, and the due edit that it ends, if it ends one.
 #[tactic(auto, unfolding(sync_model::specs::KeyStates::acknowledged, sync_model::specs::KeyStates::ended))]
 fn acknowledge(tracker: &mut Tracker, ack: Ack, own: Value) -> Option<u64>
-    requires { own ≡ ack.value }
-    ensures state { tracker.new ≡ record tracker.old { state = acknowledged tracker.old.state ack } }
+    requires own { own ≡ ack.value }
+    requires taken { is_ignored tracker.old.state ack ≡ false }
+    ensures state { key_of tracker.new ≡ (tracker.old.hash, acknowledged tracker.old.state ack) }
     ensures ended { result ≡ ended tracker.old.state ack }
 {
-    if ack.number > tracker.sequence() {
-        return None;
-    }
     let due = tracker.due();
     let _ = tracker.acknowledge(ack, own);
     if tracker.is_due() { None } else { due }
@@ -57,6 +63,7 @@ fn note_of(ended: Option<u64>, version: u64) -> Option<Note>
 
 // Applies an acknowledgement, and gives the note of the due edit that it ends, if it ends one.
 fn apply_ack(
+    alloc: Global,
     trackers: &mut Trackers,
     changes: &mut VecDeque<Change>,
     ack: &Ack,
@@ -68,10 +75,10 @@ fn apply_ack(
     ensures leads { (first : States) → LeadsBack changes.old.items first trackers.old
         → LeadsBack changes.new.items first trackers.new }
 {
-    let Some(tracker) = trackers.get(&hash_in(&ack.hash)) else {
+    let mut tracker = trackers.current(alloc, &hash_in(&ack.hash))?;
+    if is_ignored(&tracker, ack) {
         return Ok(None);
-    };
-    let mut tracker = tracker.copy()?;
+    }
     let ended = acknowledge(&mut tracker, copied(ack)?, ack.value.copy()?);
     put_changed(trackers, changes, tracker)?;
     Ok(note_of(ended, ack.version))
@@ -93,7 +100,7 @@ fn apply_each(
 {
     let mut notes = Vec::new(alloc);
     for ack in acks {
-        let note = apply_ack(trackers, changes, ack)?;
+        let note = apply_ack(alloc, trackers, changes, ack)?;
         push_note(&mut notes, note)?;
     }
     Ok(notes)

@@ -1,9 +1,9 @@
 //! Going over the trackers of a type: copies, and counts of them.
-ghost use Rattle.std.specs.Prelude.{◌≡◌, ◌+◌, ◌<◌, ◌≤◌, ◌^◌, ◌-◌, if◌then◌else◌, length, IfOk};
+ghost use Rattle.std.specs.Prelude.{◌≡◌, ◌+◌, ◌<◌, ◌≤◌, ◌^◌, ◌-◌, if◌then◌else◌, length, map, IfOk};
 ghost use Rattle.std.specs.Option.{option_copied};
 ghost use Rattle.sync_model.specs.Offers.{reseal_count as reseal_count_of};
 ghost use Rattle.sync_model.specs.Sides.{due_count as due_count_of};
-ghost use Rattle.type_processor.specs.Keyed.{trackers_of};
+ghost use Rattle.type_processor.specs.Keyed.{key_of};
 
 use crate::trackers::Trackers;
 use entity_tracker::Tracker;
@@ -12,7 +12,7 @@ use wire_fields::{List, NoMemory, Octets};
 
 /// Copies of trackers by ascending hash.
 pub(crate) fn copied_trackers(alloc: Global, trackers: &Trackers) -> Result<List<Tracker>, NoMemory>
-    ensures { IfOk result (λ list. list ≡ trackers_of trackers.now) }
+    ensures { IfOk result (λ list. map key_of list ≡ trackers.now) }
 {
     let mut list = List::new(alloc);
     let mut keys = trackers.iter();

@@ -1,14 +1,17 @@
 //! What an edit says: its key, how long its texts are, and what it makes of the key.
-ghost use Rattle.std.specs.Prelude.{◌≡◌, ◌+◌, ℕ, length, IfOk};
+ghost use Rattle.std.specs.Prelude.{◌≡◌, ◌+◌, ℕ, false, length, IfOk, OnErr};
 ghost use Rattle.client_tags.specs.Hashes.{tag_hash as hash_of_tag, IsHash};
 ghost use Rattle.client_tags.specs.Tags.{password_tag as tag_of_login};
-ghost use Rattle.client_tags.specs.declared.Kind.TheVariants.{Password as password_kind};
-ghost use Rattle.sync_model.specs.Edits.{edit_value, edit_length};
-ghost use Rattle.type_processor.specs.Edits.{edit_hash, told_length};
+ghost use Rattle.client_tags.specs.declared.Kind.TheVariants.{Preference as preference_kind, Password as password_kind};
+ghost use Rattle.sync_values.specs.declared.value.Value.TheVariants.{Preference as preference_value, Password as login_value};
+ghost use Rattle.sync_model.specs.Edits.{edit_value, edit_length, login_tag, preference_length, login_length};
+ghost use Rattle.sync_model.specs.Values.{extra_in};
+ghost use Rattle.type_processor.specs.Edits.{edit_hash, is_found_at_once, told_length};
 
 use client_tags::{TagHash, nigori_tag, password_tag, tag_hash};
 use std::alloc::Global;
 use sync_model::{Edit, Kind, Value};
+use sync_values::{Password, Preference};
 use wire_fields::{NoMemory, Octets};
 
 // The hash of the login that these five texts name.
@@ -36,24 +39,36 @@ fn login_hash(
     Ok(tag_hash(Kind::Password, tag.as_slice()))
 }
 
+fn hash_of_login(alloc: Global, login: &Password) -> Result<TagHash, NoMemory>
+    ensures { IfOk result (λ hash. hash.bytes ≡ hash_of_tag password_kind (login_tag login.now)) }
+{
+    login_hash(
+        alloc,
+        &login.origin,
+        &login.user_element,
+        &login.user_value,
+        &login.pass_element,
+        &login.realm,
+    )
+}
+
+fn preference_hash(name: &Octets) -> TagHash
+    ensures { result.bytes ≡ hash_of_tag preference_kind name.now }
+{
+    tag_hash(Kind::Preference, name.as_slice())
+}
+
 /// The hash of the key that an edit changes, in time linear in its texts.
 pub(crate) fn edit_hash(alloc: Global, edit: &Edit) -> Result<TagHash, NoMemory>
-    ensures { IfOk result (λ hash. hash.bytes ≡ edit_hash edit.now) }
+    ensures hash { IfOk result (λ hash. hash.bytes ≡ edit_hash edit.now) }
+    ensures at_once { OnErr result (is_found_at_once edit.now ≡ false) }
 {
     match edit {
-        Edit::SetPreference(preference) => Ok(tag_hash(
-            Kind::Preference,
-            preference.name.as_slice(),
-        )),
-        Edit::DeletePreference(name) => Ok(tag_hash(Kind::Preference, name.as_slice())),
-        Edit::SetPassword(login) => login_hash(
-            alloc,
-            &login.origin,
-            &login.user_element,
-            &login.user_value,
-            &login.pass_element,
-            &login.realm,
-        ),
+        Edit::SetPreference(preference) => Ok(preference_hash(&preference.name)),
+        Edit::NewerPreference(preference) => Ok(preference_hash(&preference.name)),
+        Edit::DeletePreference(name) => Ok(preference_hash(name)),
+        Edit::SetPassword(login) => hash_of_login(alloc, login),
+        Edit::NewerPassword(login) => hash_of_login(alloc, login),
         Edit::DeletePassword {
             origin,
             user_element,
@@ -65,6 +80,18 @@ pub(crate) fn edit_hash(alloc: Global, edit: &Edit) -> Result<TagHash, NoMemory>
     }
 }
 
+// The fields of a value that only a newer client knows.
+fn extra_in(value: &Value) -> &[u8]
+    ensures { result.now ≡ extra_in value.now }
+{
+    match value {
+        Value::Preference(preference) => preference.extra.as_slice(),
+        Value::Password(login) => login.extra.as_slice(),
+        _ => &[],
+    }
+}
+
+// How long a text is; the greatest number that there is stands for those above it.
 fn text_length(text: &Octets) -> u64
     ensures { result ≡ told_length (length text.now) }
 {
@@ -78,44 +105,103 @@ fn with_text(len: u64, text: &Octets) -> u64
     len.saturating_add(text.len() as u64)
 }
 
-/// How many bytes the texts of an edit have; the greatest number that there is stands for those above it.
-pub(crate) fn edit_length(edit: &Edit) -> u64
-    ensures { result ≡ told_length (edit_length edit.now) }
+// The length of texts with that of unknown fields.
+fn with_extra(len: u64, extra: &[u8]) -> u64
+    ensures { (before : ℕ) → len ≡ told_length before → result ≡ told_length (before + length extra.now) }
+{
+    len.saturating_add(extra.len() as u64)
+}
+
+fn preference_length(preference: &Preference, extra: &[u8]) -> u64
+    ensures { result ≡ told_length (preference_length preference.now + length extra.now) }
+{
+    let name = text_length(&preference.name);
+    with_extra(with_text(name, &preference.value), extra)
+}
+
+// How many bytes the five texts have that name a login.
+fn site_length(
+    origin: &Octets,
+    user_element: &Octets,
+    user_value: &Octets,
+    pass_element: &Octets,
+    realm: &Octets,
+) -> u64
+    ensures { result ≡ told_length (length origin.now + length user_element.now + length user_value.now
+        + length pass_element.now + length realm.now) }
+{
+    let site = with_text(text_length(origin), user_element);
+    let user = with_text(with_text(site, user_value), pass_element);
+    with_text(user, realm)
+}
+
+fn login_length(login: &Password, extra: &[u8]) -> u64
+    ensures { result ≡ told_length (login_length login.now + length extra.now) }
+{
+    let site = site_length(
+        &login.origin,
+        &login.user_element,
+        &login.user_value,
+        &login.pass_element,
+        &login.realm,
+    );
+    with_extra(with_text(site, &login.secret), extra)
+}
+
+/// How many bytes the texts of an edit have, and the unknown fields of the value that it makes of the own value before
+/// it; the greatest number that there is stands for those above it.
+pub(crate) fn edit_length(own: &Value, edit: &Edit) -> u64
+    ensures { result ≡ told_length (edit_length own.now edit.now) }
 {
     match edit {
-        Edit::SetPreference(preference) => with_text(
-            text_length(&preference.name),
-            &preference.value,
+        Edit::SetPreference(preference) => preference_length(preference, extra_in(own)),
+        Edit::NewerPreference(preference) => preference_length(
+            preference,
+            preference.extra.as_slice(),
         ),
         Edit::DeletePreference(name) => text_length(name),
-        Edit::SetPassword(login) => {
-            let site = with_text(text_length(&login.origin), &login.user_element);
-            let user = with_text(with_text(site, &login.user_value), &login.pass_element);
-            with_text(with_text(user, &login.realm), &login.secret)
-        }
+        Edit::SetPassword(login) => login_length(login, extra_in(own)),
+        Edit::NewerPassword(login) => login_length(login, login.extra.as_slice()),
         Edit::DeletePassword {
             origin,
             user_element,
             user_value,
             pass_element,
             realm,
-        } => {
-            let site = with_text(text_length(origin), user_element);
-            with_text(with_text(with_text(site, user_value), pass_element), realm)
-        }
+        } => site_length(origin, user_element, user_value, pass_element, realm),
         Edit::SetNigori(nigori) => text_length(&nigori.lock),
     }
 }
 
-/// The value that an edit sets.
-pub(crate) fn edit_value(edit: Edit) -> Value
-    ensures { result ≡ edit_value edit }
+fn set_preference(preference: Preference, extra: Octets) -> Value
+    ensures { result ≡ preference_value (record preference { extra = extra }) }
+{
+    let Preference { name, value, .. } = preference;
+    Value::Preference(Preference { name, value, extra })
+}
+
+fn set_login(mut login: Password, extra: Octets) -> Value
+    ensures { result ≡ login_value (record login { extra = extra }) }
+{
+    login.extra = extra;
+    Value::Password(login)
+}
+
+/// What an edit makes of the own value before it. What is set keeps the fields of that one that only a newer client
+/// knows, which it copies.
+pub(crate) fn edit_value(alloc: Global, own: &Value, edit: Edit) -> Result<Value, NoMemory>
+    ensures { IfOk result (λ value. value ≡ edit_value own.now edit) }
 {
     match edit {
-        Edit::SetPreference(preference) => Value::Preference(preference),
-        Edit::SetPassword(login) => Value::Password(login),
-        Edit::SetNigori(nigori) => Value::Nigori(nigori),
-        _ => Value::Absent,
+        Edit::SetPreference(preference) => Ok(set_preference(
+            preference,
+            Octets::from_slice(alloc, extra_in(own))?,
+        )),
+        Edit::NewerPreference(preference) => Ok(Value::Preference(preference)),
+        Edit::SetPassword(login) => Ok(set_login(login, Octets::from_slice(alloc, extra_in(own))?)),
+        Edit::NewerPassword(login) => Ok(Value::Password(login)),
+        Edit::SetNigori(nigori) => Ok(Value::Nigori(nigori)),
+        _ => Ok(Value::Absent),
     }
 }
 

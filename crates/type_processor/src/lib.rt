@@ -8,6 +8,7 @@ mod counts;
 mod edits;
 mod journal;
 mod mail;
+mod notes;
 mod offers;
 mod processor;
 mod tasks;

@@ -1,21 +1,23 @@
 //! What a client has of one type, and its calls.
-ghost use Rattle.std.specs.Prelude.{◌≡◌, ◌+◌, ◌∷◌, ◌++◌, [], None, false, length, IsTrue, OnOk, OnErr, IfOk, IfErr};
+ghost use Rattle.std.specs.Prelude.{◌≡◌, ◌<◌, ◌+◌, ◌∷◌, ◌++◌, [], None, false, length, map, OnOk, OnErr, IfOk, IfErr};
 ghost use Rattle.std.specs.List.{AllByRecursion};
 ghost use Rattle.std.specs.Option.{option_copied, option_map};
 ghost use Rattle.sync_model.specs.declared.state.KeyState.{KeyState as KeyStateOf};
-ghost use Rattle.sync_model.specs.Edits.{edit_kind};
+ghost use Rattle.sync_model.specs.Changes.{own_at};
+ghost use Rattle.sync_model.specs.Edits.{edit_kind, edit_value, edit_length};
 ghost use Rattle.sync_model.specs.Offers.{offers_of, reseal_count};
 ghost use Rattle.client_tags.specs.Hashes.{IsHash};
-ghost use Rattle.sync_model.specs.Sides.{due_count, is_full, side_edited, state_at};
-ghost use Rattle.type_processor.specs.Edits.{edit_hash as hash_of_edit, refusal_of, edited_by, edit_told, IsFaultAt};
-ghost use Rattle.type_processor.specs.Fits.{may_have, IsTaskOf, IsOfferOf};
-ghost use Rattle.type_processor.specs.Keyed.{found_at, tracker_at, trackers_of};
+ghost use Rattle.sync_model.specs.Sides.{due_count, is_full, side_edited, side_offered, state_at};
+ghost use Rattle.type_processor.specs.Edits.{edit_hash as hash_of_edit, refusal_of, edited_by, edit_told, told_length, IsFaultAt};
+ghost use Rattle.type_processor.specs.Fits.{IsTaskOf, IsOfferOf};
+ghost use Rattle.type_processor.specs.Keyed.{found_at, key_of, key_at};
 ghost use Rattle.type_processor.specs.Processed.{side_of, with_side};
 ghost use Rattle.type_processor.specs.Turns.{turned, turn_told};
 
 use crate::answers::{EditFault, Edited, Turn};
 use crate::counts::{copied_trackers, due_count, reseal_count};
 use crate::edits::{are_hash_bytes, edit_hash, edit_length, edit_value};
+use crate::notes::note_offers;
 use crate::offers::first_offers;
 use crate::tasks::{apply_task, discard_task, raised_mark};
 use crate::trackers::{Trackers, TrackersIter, discard};
@@ -90,6 +92,16 @@ impl<R: TypeRules> Processor<R> {
             || self.last_edit == u64::MAX
     }
 
+    // How many bytes an edit of this key has, with the unknown fields of the value that it makes.
+    fn length_at(&self, hash: &TagHash, edit: &Edit) -> u64
+        ensures { result ≡ told_length (edit_length (own_at (side_of self.now) hash.now.bytes) edit.now) }
+    {
+        match self.trackers.get(hash) {
+            Some(tracker) => edit_length(tracker.own(), edit),
+            None => edit_length(&Value::Absent, edit),
+        }
+    }
+
     // The hash of an edit's key, if the edit may be taken.
     fn room_for(&self, edit: &Edit) -> Result<TagHash, EditFault>
         ensures hash { IfOk result (λ hash. hash.bytes ≡ hash_of_edit edit.now) }
@@ -97,14 +109,14 @@ impl<R: TypeRules> Processor<R> {
         ensures may { OnOk result (refusal_of self.now edit.now ≡ None) }
         ensures fault { IfErr result (IsFaultAt self.now edit.now) }
     {
-        let len = edit_length(edit);
-        if len > MAX_TEXT {
-            return Err(EditFault::TooLong { len });
-        }
         let Ok(hash) = edit_hash(self.alloc, edit) else {
             return Err(EditFault::NoMemory);
         };
         are_hash_bytes(&hash.bytes);
+        let len = self.length_at(&hash, edit);
+        if len > MAX_TEXT {
+            return Err(EditFault::TooLong { len });
+        }
         if self.is_full(&hash) {
             let count = self.trackers.len() as u64;
             return Err(EditFault::Full { count });
@@ -112,12 +124,13 @@ impl<R: TypeRules> Processor<R> {
         Ok(hash)
     }
 
-    // Sets the own value of a key for which there is room.
-    fn take(&mut self, hash: &TagHash, value: Value) -> Result<Edited, NoMemory>
+    // Takes an edit of a key for which there is room.
+    fn take(&mut self, hash: &TagHash, edit: Edit) -> Result<Edited, NoMemory>
         requires hash { IsHash hash.now.bytes }
-        requires value { IsTrue (may_have self.old.kind value) }
+        requires kind { edit_kind edit ≡ self.old.kind }
         requires room { is_full (side_of self.old) hash.now.bytes ≡ false }
-        ensures ok { OnOk result (self.new ≡ with_side self.old (side_edited (side_of self.old) hash.now.bytes value)) }
+        ensures ok { OnOk result (self.new ≡ with_side self.old (side_edited (side_of self.old) hash.now.bytes
+            (edit_value (own_at (side_of self.old) hash.now.bytes) edit))) }
         ensures told { IfOk result (λ edited. edited ≡ record {
           number = self.old.last_edit + 1;
           followed = (state_at self.old.states hash.now.bytes).due;
@@ -126,6 +139,7 @@ impl<R: TypeRules> Processor<R> {
     {
         let number = self.last_edit + 1;
         let mut tracker = self.trackers.current(self.alloc, hash)?;
+        let value = edit_value(self.alloc, tracker.own(), edit)?;
         let followed = tracker.due();
         tracker.local_change(value, number);
         let before = self.trackers.put(tracker)?;
@@ -134,10 +148,11 @@ impl<R: TypeRules> Processor<R> {
         Ok(Edited { number, followed })
     }
 
-    /// Takes an edit of its user: the key's own value is the edit's, and is due. It takes time in the length of the
-    /// edit's texts and the logarithm of the number of keys.
+    /// Takes an edit of its user: the key's own value is what the edit makes of the one before, and is due. It takes
+    /// time in the length of the edit's texts and of the key's values, and the logarithm of the number of keys.
     ///
-    /// It refuses texts that are too long, and then a new key where no more are held.
+    /// It refuses texts that are too long, and then a new key where no more are held; both whether or not there is
+    /// memory, but for an edit of a login, whose key takes memory to find.
     pub fn edit(&mut self, edit: Edit) -> Result<Edited, EditFault>
         requires { edit_kind edit ≡ self.old.kind }
         ensures taken { OnOk result (refusal_of self.old edit ≡ None) }
@@ -147,7 +162,7 @@ impl<R: TypeRules> Processor<R> {
         ensures err { OnErr result (self.new ≡ self.old) }
     {
         let hash = self.room_for(&edit)?;
-        match self.take(&hash, edit_value(edit)) {
+        match self.take(&hash, edit) {
             Ok(edited) => Ok(edited),
             Err(NoMemory) => Err(EditFault::NoMemory),
         }
@@ -167,12 +182,17 @@ impl<R: TypeRules> Processor<R> {
     /// The first of what is to be sent, at most so many: what is due by ascending number of the edits, and then what
     /// is to be sealed anew under the key of the name that is wanted, by ascending known version; ties by ascending
     /// hash. It looks at each tracker twice, sorts what is to be sent, and copies the values of the offers that it
-    /// gives alone.
-    pub fn offers(&self, wanted: Option<&Octets>, max: usize) -> Result<List<Offer>, NoMemory>
-        ensures offers { IfOk result (λ offers. offers ≡ offers_of (option_copied wanted.entry) max self.now.states) }
-        ensures fit { IfOk result (AllByRecursion (IsOfferOf self.now.kind)) }
+    /// gives alone. Each key keeps that its value was offered, all of them or none.
+    pub fn offers(&mut self, wanted: Option<&Octets>, max: usize) -> Result<List<Offer>, NoMemory>
+        ensures offers { IfOk result (λ offers. offers ≡ offers_of (option_copied wanted.entry) max self.old.states) }
+        ensures fit { IfOk result (AllByRecursion (IsOfferOf self.old.kind)) }
+        ensures noted { IfOk result (λ offers. self.new ≡ with_side self.old (side_offered (side_of self.old) offers)) }
+        ensures err { OnErr result (self.new ≡ self.old) }
     {
-        first_offers(self.alloc, &self.trackers, wanted, max)
+        let offers = first_offers(self.alloc, &self.trackers, wanted, max)?;
+        self.trackers.have_own_hashes();
+        note_offers(self.alloc, &mut self.trackers, offers.as_slice())?;
+        Ok(offers)
     }
 
     /// Puts a task to the end of those that wait for a turn.
@@ -185,12 +205,13 @@ impl<R: TypeRules> Processor<R> {
         Ok(())
     }
 
-    /// Applies the first task that waits, if there is one, whole or not at all. It takes time in what the task holds,
-    /// and the logarithm of the number of keys for each of the task's.
+    /// Applies the first task that waits, if there is one, whole or not at all; where none waits it takes no memory. It
+    /// takes time in what the task holds, and the logarithm of the number of keys for each of the task's.
     pub fn turn(&mut self) -> Result<Turn, NoMemory>
         ensures ok { OnOk result (self.new ≡ turned (R.decided self.old.rules) self.old) }
         ensures told { IfOk result (λ turn. turn ≡ turn_told (R.decided self.old.rules) self.old) }
         ensures err { OnErr result (self.new ≡ self.old) }
+        ensures idle { OnErr result (0 < length self.old.mailbox) }
     {
         let Some(task) = self.mailbox.get(0) else {
             return Ok(Turn::Idle);
@@ -227,7 +248,7 @@ impl<R: TypeRules> Processor<R> {
 
     /// Copies of the trackers by ascending hash, in time linear in all that they hold.
     pub fn list(&self) -> Result<List<Tracker>, NoMemory>
-        ensures { IfOk result (λ list. list ≡ trackers_of self.now.states) }
+        ensures { IfOk result (λ list. map key_of list ≡ self.now.states) }
     {
         copied_trackers(self.alloc, &self.trackers)
     }
@@ -241,7 +262,7 @@ impl<R: TypeRules> Processor<R> {
 
     /// What is known of a key, if anything is, without a copy.
     pub fn tracker(&self, hash: &TagHash) -> Option<&Tracker>
-        ensures { option_copied result ≡ tracker_at self.now.states hash.now.bytes }
+        ensures { option_map key_of (option_copied result) ≡ key_at self.now.states hash.now.bytes }
     {
         self.trackers.get(hash)
     }

@@ -26,6 +26,7 @@ fn login(alloc: Global, created: i64) -> Password {
         realm: Octets::new(alloc),
         secret: Octets::new(alloc),
         created,
+        extra: Octets::new(alloc),
     }
 }
 
@@ -137,7 +138,9 @@ fn turn<R: TypeRules>(processor: &mut Processor<R>) -> Option<(usize, Option<Not
 }
 
 // The known version, when the own value was made, and the number of the first offer.
-fn first_offer<R: TypeRules>(processor: &Processor<R>) -> Option<(u64, i64, u64)> {
+fn first_offer<R: TypeRules>(processor: &mut Processor<R>) -> Option<(u64, i64, u64)>
+    ensures { processor.new.kind ≡ processor.old.kind }
+{
     match processor.offers(None, 25) {
         Ok(offers) => match offers.as_slice().first() {
             Some(offer) => Some((offer.known, made(&offer.value), offer.number)),
@@ -152,7 +155,7 @@ fn two_edits_follow_each_other(rt: HostRuntime) {
     let mut processor = Processor::new(rt.alloc(), Kind::Password, Passwords);
     assert_eq!(rt; edit(&mut processor, rt.alloc(), 1), Some((1, None)));
     assert_eq!(rt; edit(&mut processor, rt.alloc(), 2), Some((2, Some(1))));
-    assert_eq!(rt; first_offer(&processor), Some((0, 2, 2)));
+    assert_eq!(rt; first_offer(&mut processor), Some((0, 2, 2)));
     assert_eq!(rt; processor.due_count(), 1);
     assert_eq!(rt; processor.last_edit(), 2);
 }
@@ -169,7 +172,7 @@ fn an_acknowledgement_ends_the_edit_that_was_sent(rt: HostRuntime) -> Result<(),
     };
     assert_eq!(rt; turn(&mut processor), Some((1, Some(note))));
     assert_eq!(rt; turn(&mut processor), None);
-    assert_eq!(rt; first_offer(&processor), None);
+    assert_eq!(rt; first_offer(&mut processor), None);
     Ok(())
 }
 
@@ -260,6 +263,7 @@ fn long_edit(alloc: Global, len: usize) -> Result<Edit, NoMemory>
     Ok(Edit::SetPreference(Preference {
         name: Octets::new(alloc),
         value: Octets::from_vec(bytes),
+        extra: Octets::new(alloc),
     }))
 }
 
@@ -280,5 +284,76 @@ fn texts_have_no_more(rt: HostRuntime) -> Result<(), Fail> {
     assert_eq!(rt; processor.may_edit(&edit), Err(fault));
     assert_eq!(rt; processor.edit(edit), Err(fault));
     assert_eq!(rt; processor.last_edit(), 0);
+    Ok(())
+}
+
+#[test]
+fn an_earlier_offer_comes_back(rt: HostRuntime) -> Result<(), Fail> {
+    let mut processor = Processor::new(rt.alloc(), Kind::Password, Passwords);
+    assert_eq!(rt; edit(&mut processor, rt.alloc(), 9), Some((1, None)));
+    assert_eq!(rt; first_offer(&mut processor), Some((0, 9, 1)));
+    assert_eq!(rt; edit(&mut processor, rt.alloc(), 3), Some((2, Some(1))));
+    assert_eq!(rt; first_offer(&mut processor), Some((0, 3, 2)));
+    post_update(&mut processor, rt.alloc(), 1, 9)?;
+    assert_eq!(rt; turn(&mut processor), Some((0, None)));
+    assert_eq!(rt; first_offer(&mut processor), Some((1, 3, 2)));
+    Ok(())
+}
+
+#[test]
+fn an_acknowledgement_of_an_unknown_key_is_kept(rt: HostRuntime) -> Result<(), Fail> {
+    let mut processor = Processor::new(rt.alloc(), Kind::Password, Passwords);
+    post_ack(&mut processor, rt.alloc(), 5, 1)?;
+    assert_eq!(rt; turn(&mut processor), Some((0, None)));
+    assert_eq!(rt; listed(&processor), Some(0));
+    post_ack(&mut processor, rt.alloc(), 5, 0)?;
+    assert_eq!(rt; turn(&mut processor), Some((0, None)));
+    assert_eq!(rt; listed(&processor), Some(1));
+    Ok(())
+}
+
+fn preference(alloc: Global, extra: Octets) -> Preference {
+    Preference {
+        name: Octets::new(alloc),
+        value: Octets::new(alloc),
+        extra,
+    }
+}
+
+// An edit of a preference is taken.
+fn takes(processor: &mut Processor<Preferences>, edit: Edit) -> bool
+    requires kind { processor.old.kind ≡ preference_kind }
+    requires edit { edit_kind edit ≡ preference_kind }
+    ensures { processor.new.kind ≡ preference_kind }
+{
+    match processor.edit(edit) {
+        Ok(_) => true,
+        Err(_) => false,
+    }
+}
+
+// How many bytes of unknown fields the first key's own value has.
+fn own_extra(processor: &Processor<Preferences>) -> Option<usize> {
+    match processor.trackers().next() {
+        Some(tracker) => match tracker.own() {
+            Value::Preference(preference) => Some(preference.extra.len()),
+            _ => None,
+        },
+        None => None,
+    }
+}
+
+#[test]
+fn a_set_edit_keeps_what_a_newer_client_knows(rt: HostRuntime) -> Result<(), Fail> {
+    let extra = Octets::from_slice(rt.alloc(), b"\x18\x07")?;
+    let mut processor = Processor::new(rt.alloc(), Kind::Preference, Preferences);
+    let newer = Edit::NewerPreference(preference(rt.alloc(), extra));
+    assert!(rt; takes(&mut processor, newer));
+    let set = Edit::SetPreference(preference(rt.alloc(), Octets::new(rt.alloc())));
+    assert!(rt; takes(&mut processor, set));
+    assert_eq!(rt; own_extra(&processor), Some(2));
+    let bare = Edit::NewerPreference(preference(rt.alloc(), Octets::new(rt.alloc())));
+    assert!(rt; takes(&mut processor, bare));
+    assert_eq!(rt; own_extra(&processor), Some(0));
     Ok(())
 }

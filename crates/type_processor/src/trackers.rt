@@ -4,9 +4,9 @@ ghost use Rattle.std.specs.BTreeMap.{is_at};
 ghost use Rattle.std.specs.Cmp.Lexicographic.{slice_cmp};
 ghost use Rattle.std.specs.Map.{remove_entry};
 ghost use Rattle.std.specs.Ordering.{nat_cmp};
-ghost use Rattle.std.specs.Option.{option_copied};
+ghost use Rattle.std.specs.Option.{option_copied, option_map};
 ghost use Rattle.sync_model.specs.Sides.{has_state, state_at, with_state};
-ghost use Rattle.type_processor.specs.Keyed.{hashes_of, tracker_at};
+ghost use Rattle.type_processor.specs.Keyed.{hashes_of, key_of, key_at, HaveOwnHashes};
 
 use client_tags::TagHash;
 use entity_tracker::Tracker;
@@ -88,7 +88,7 @@ impl Trackers {
     }
 
     pub(crate) fn get(&self, hash: &TagHash) -> Option<&Tracker>
-        ensures { option_copied result ≡ tracker_at self.now hash.now.bytes }
+        ensures { option_map key_of (option_copied result) ≡ key_at self.now hash.now.bytes }
     {
         self.map.get(hash)
     }
@@ -101,10 +101,17 @@ impl Trackers {
         }
     }
 
+    /// No two keys have one hash.
+    pub(crate) fn have_own_hashes(&self)
+        ensures { HaveOwnHashes self.now }
+    {
+        // Of each entry that a map goes over it is known that its key is found.
+        let _entries = self.map.iter();
+    }
+
     /// A copy of a key's tracker, or a fresh one where there is none.
     pub(crate) fn current(&self, alloc: Global, hash: &TagHash) -> Result<Tracker, NoMemory>
-        ensures { IfOk result (λ tracker. tracker
-            ≡ record { hash = hash.now.bytes; state = state_at self.now hash.now.bytes }) }
+        ensures { IfOk result (λ tracker. key_of tracker ≡ (hash.now.bytes, state_at self.now hash.now.bytes)) }
     {
         match self.get(hash) {
             Some(tracker) => tracker.copy(),
@@ -115,7 +122,7 @@ impl Trackers {
     /// Puts a tracker in the place of its key's, and gives that one back, if there was one.
     pub(crate) fn put(&mut self, tracker: Tracker) -> Result<Option<Tracker>, NoMemory>
         ensures ok { OnOk result (self.new ≡ with_state self.old tracker.hash tracker.state) }
-        ensures before { IfOk result (λ before. before ≡ tracker_at self.old tracker.hash) }
+        ensures before { IfOk result (λ before. option_map key_of before ≡ key_at self.old tracker.hash) }
         ensures kept { IfOk result (λ before. IsSome before → hashes_of self.new ≡ hashes_of self.old) }
         ensures absent { OnErr result (has_state self.old tracker.hash ≡ false) }
         ensures err { OnErr result (self.new ≡ self.old) }

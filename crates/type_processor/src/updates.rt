@@ -5,6 +5,7 @@ ghost use Rattle.sync_model.specs.KeyStates.{settled, updated, fate_by, fate_of_
 ghost use Rattle.sync_model.specs.Sides.{States, state_at, note_with, after_update, after_updates, update_notes};
 ghost use Rattle.type_processor.specs.Fits.{HaveHashes};
 ghost use Rattle.type_processor.specs.Journals.{LeadsBack};
+ghost use Rattle.type_processor.specs.Keyed.{key_of};
 
 use crate::edits::hash_in;
 use crate::journal::{Change, put_changed, take_all_back};
@@ -42,7 +43,7 @@ fn settle(tracker: &mut Tracker, update: Update, own: Value, resolution: Resolut
     requires newer { tracker.old.state.known < update.version }
     requires own { own ≡ update.value }
     requires due { IsTrue (is_some tracker.old.state.due) }
-    ensures state { tracker.new ≡ record tracker.old { state = settled tracker.old.state update resolution.choice } }
+    ensures state { key_of tracker.new ≡ (tracker.old.hash, settled tracker.old.state update resolution.choice) }
     ensures fate { result ≡ fate_by update.version resolution resolution.choice }
 {
     let version = update.version;
@@ -75,8 +76,8 @@ fn update_tracker<R: TypeRules>(
     update: &Update,
 ) -> Result<Option<Fate>, NoMemory>
     requires newer { tracker.old.state.known < update.now.version }
-    ensures state { OnOk result (tracker.new
-        ≡ record tracker.old { state = updated (R.decided rules.now) tracker.old.state update.now }) }
+    ensures state { OnOk result (key_of tracker.new
+        ≡ (tracker.old.hash, updated (R.decided rules.now) tracker.old.state update.now)) }
     ensures fate { IfOk result (λ fate. fate ≡ fate_of_update (R.decided rules.now) tracker.old.state update.now) }
 {
     let own = update.value.copy()?;
@@ -85,7 +86,8 @@ fn update_tracker<R: TypeRules>(
         tracker.accept_remote(write, own);
         return Ok(None);
     }
-    let resolution = resolve(rules, tracker.base(), tracker.own(), &update.value)?;
+    let echo = tracker.is_echo(&update.value);
+    let resolution = resolve(rules, echo, tracker.base(), tracker.own(), &update.value)?;
     Ok(settle(tracker, write, own, resolution))
 }
 

@@ -1,25 +1,23 @@
 use Rattle.std.proofs.Common.{◌∙◌, ap, sym}
-use Rattle.std.specs.Option.{option_copied}
-use Rattle.sync_model.specs.KeyStates.{acknowledged}
 use Rattle.sync_model.specs.declared.message.Ack.{Ack}
-use Rattle.entity_tracker.specs.Tracked.{Tracked}
-use Rattle.type_processor.proofs.AckLemmas.{ack_unknown, ack_unknown_note, ack_put}
+use Rattle.sync_model.specs.KeyStates.{acknowledged}
+use Rattle.type_processor.proofs.AckLemmas.{ack_ignored, ack_ignored_note, ack_put}
 use Rattle.type_processor.proofs.acks.apply_ack.Goals as goal
 
-pub returns-in_default-clause-states : goal.returns-in_default-clause-states
-returns-in_default-clause-states c =
-    ack_unknown c.args.trackers.now c.hash_in.result.bytes c.args.ack.now c.hash_in.ensures
-    (sym (ap option_copied c.in_default.is) ∙ c.get.ensures)
+pub returns-then-is_ignored-clause-states : goal.returns-then-is_ignored-clause-states
+returns-then-is_ignored-clause-states c =
+    ack_ignored c.args.trackers.now c.hash_in.result.bytes c.in_ok-tracker.tracker c.args.ack.now c.in_ok-tracker.ensures c.hash_in.ensures
+    (sym c.if-is_ignored.true ∙ c.is_ignored.ensures)
 
-pub returns-in_default-clause-note : goal.returns-in_default-clause-note
-returns-in_default-clause-note c =
-    ack_unknown_note c.args.trackers.now c.hash_in.result.bytes c.args.ack.now c.hash_in.ensures
-    (sym (ap option_copied c.in_default.is) ∙ c.get.ensures)
+pub returns-then-is_ignored-clause-note : goal.returns-then-is_ignored-clause-note
+returns-then-is_ignored-clause-note c =
+    ack_ignored_note c.args.trackers.now c.hash_in.result.bytes c.in_ok-tracker.tracker c.args.ack.now c.in_ok-tracker.ensures c.hash_in.ensures
+    (sym c.if-is_ignored.true ∙ c.is_ignored.ensures)
 
 pub returns-clause-states : goal.returns-clause-states
 returns-clause-states c =
-    ack_put c.args.trackers.now c.put_changed.new.trackers c.hash_in.result.bytes c.in-Some.tracker.now c.acknowledge-ended.new.tracker c.args.ack.now
-    c.hash_in.ensures (sym (ap option_copied c.in-Some.is) ∙ c.get.ensures)
+    ack_put c.args.trackers.now c.put_changed.new.trackers c.hash_in.result.bytes c.in_ok-tracker.tracker c.acknowledge-ended.new.tracker
+    c.args.ack.now c.in_ok-tracker.ensures c.hash_in.ensures (sym c.if-is_ignored.false ∙ c.is_ignored.ensures)
     (c.acknowledge-ended.ensures.state
-    ∙ (λ i. record (c.in_ok-tracker.ensures i) { state = acknowledged (c.in_ok-tracker.ensures i).state (c.in_ok-copied.ensures i) }))
-    c.in_ok-put_changed.ensures.ok c.in_ok-put_changed.ensures.kept
+    ∙ ap (λ (ack : Ack). (c.in_ok-tracker.tracker.hash, acknowledged c.in_ok-tracker.tracker.state ack)) c.in_ok-copied.ensures)
+    c.in_ok-put_changed.ensures.ok

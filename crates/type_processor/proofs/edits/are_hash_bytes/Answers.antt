@@ -1,4 +1,3 @@
-use Rattle.std.proofs.Common.{sym}
 use Rattle.type_processor.proofs.edits.are_hash_bytes.Goals as goal
 
 pub returns : goal.returns

@@ -1,4 +1,4 @@
-use Rattle.std.proofs.Common.{◌≡◌, ◌++◌, drop, List}
+use Rattle.std.proofs.Common.{◌≡◌, ◌++◌, drop}
 use Rattle.sync_model.specs.Sides.{States, after_updates, update_notes}
 use Rattle.type_processor.specs.Fits.{HaveHashes}
 use Rattle.type_processor.specs.Journals.{LeadsBack}

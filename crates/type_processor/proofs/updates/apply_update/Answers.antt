@@ -1,4 +1,4 @@
-use Rattle.std.proofs.Common.{◌∙◌, ap, sym, ◌≤◌, ◌<◌, ℕ, subst}
+use Rattle.std.proofs.Common.{◌≤◌, ◌<◌, ℕ, subst}
 use Rattle.type_processor.proofs.UpdateLemmas.{old_update, old_update_note, new_update}
 use Rattle.type_processor.proofs.updates.apply_update.Goals as goal
 

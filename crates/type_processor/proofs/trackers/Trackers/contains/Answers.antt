@@ -1,5 +1,4 @@
-use Rattle.std.proofs.Common.{◌∙◌, ap, sym}
-use Rattle.sync_model.specs.Sides.{States, has_state}
+use Rattle.std.proofs.Common.{◌∙◌}
 use Rattle.type_processor.proofs.KeyedEntries.{found_some}
 use Rattle.type_processor.proofs.trackers.Trackers.contains.Goals as goal
 

@@ -1,7 +1,7 @@
 use Rattle.std.proofs.Common.{◌∙◌, ap, sym}
 use Rattle.std.specs.Prelude.{is_some}
-use Rattle.sync_model.specs.Sides.{with_state, has_state}
-use Rattle.type_processor.specs.Keyed.{states_of, tracker_at}
+use Rattle.std.specs.Option.{option_map}
+use Rattle.type_processor.specs.Keyed.{states_of, key_of}
 use Rattle.type_processor.proofs.KeyedEntries.{keyed_insert, states_insert, found_tracker, found_some, same_hashes, any_err}
 use Rattle.type_processor.proofs.trackers.Trackers.put.Goals as goal
 
@@ -18,7 +18,7 @@ returns-clause-ok c =
 pub returns-clause-before : goal.returns-clause-before
 returns-clause-before c =
     rw (← c.self.view_is, ← c.hash.ensures)
-    (c.in_ok-insert.ensures.old ∙ found_tracker c.self.inside.map.entries c.hash.result c.self.invariant)
+    (ap (option_map key_of) c.in_ok-insert.ensures.old ∙ found_tracker c.self.inside.map.entries c.hash.result c.self.invariant)
 
 pub returns-clause-kept : goal.returns-clause-kept
 returns-clause-kept c =
