@@ -1,5 +1,6 @@
 pub mod Entries
 pub mod Messages
+pub mod Extras
 pub mod Indexes
 pub mod Stores
 pub mod Candidates

@@ -3,7 +3,7 @@ ghost use Rattle.std.specs.Prelude.{◌≡◌, ◌==◌, ◌+◌, ◌<◌, ◌�
 ghost use Rattle.std.specs.List.{AllByRecursion};
 ghost use Rattle.client_tags.specs.Hashes.{IsHash};
 ghost use Rattle.sync_specifics.specs.declared.specifics.Specifics.{Specifics as AnySpecifics};
-ghost use Rattle.sync_messages.specs.Laws.{IsEntity, IsMarker};
+ghost use Rattle.sync_messages.specs.Laws.{FitsTypes, IsMarker};
 ghost use Rattle.sync_model.specs.declared.message.Entry.{Entry as AnyEntry};
 ghost use Rattle.sync_model.specs.Servers.{as_given, new_marker};
 ghost use Rattle.loopback_server.specs.Messages.{told_entity, told_marker};
@@ -43,7 +43,7 @@ fn hash_of(bytes: &[u8; 20]) -> TagHash
 // A write of this version as an entity.
 fn told_entity(alloc: Global, write: &Write, version: u64) -> Result<Entity, NoMemory>
     ensures entity { IfOk result (λ entity. entity ≡ told_entity (as_given version (entry_of write.now))) }
-    ensures sayable { IfOk result IsEntity }
+    ensures typed { IfOk result FitsTypes }
 {
     Ok(Entity {
         id: id_of(alloc, &write.key)?,
@@ -88,7 +88,7 @@ impl Page {
         ensures page { OnOk result ((wanted : Sequence (AnyEntry (Maybe AnySpecifics))) → IsPage self.old wanted
             → IsPage self.new (wanted ++ as_given version (entry_of write.now) ∷ [])) }
         ensures few { OnOk result (self.new.remaining ≤ self.old.remaining + 1) }
-        ensures sayable { OnOk result (AllByRecursion IsEntity self.old.entries.items → AllByRecursion IsEntity self.new.entries.items) }
+        ensures typed { OnOk result (AllByRecursion FitsTypes self.old.entries.items → AllByRecursion FitsTypes self.new.entries.items) }
     {
         if self.entries.as_slice().len() < MAX_UPDATES {
             self.entries.push(told_entity(alloc, write, version)?)?;

@@ -1,10 +1,11 @@
 //! The server.
 ghost use Rattle.std.specs.Prelude.{◌≡◌, ◌≤◌, [], length, drop, map, not, IfOk, OnOk, OnErr};
 ghost use Rattle.std.specs.Str.{bytes_eq};
-ghost use Rattle.sync_messages.specs.Laws.{IsSayable, IsSayableReply};
+ghost use Rattle.sync_messages.specs.Laws.{HasCanonicalRequest, IsSayable, IsSayableReply};
 ghost use Rattle.sync_model.specs.History.{IsBased};
 ghost use Rattle.sync_model.specs.Servers.{is_foreign, verdict_on, history_after};
 ghost use Rattle.loopback_server.specs.Entries.{is_invalid};
+ghost use Rattle.loopback_server.specs.Extras.{HoldCanonicalExtras};
 ghost use Rattle.loopback_server.specs.Messages.{call_in, entries_of, told_entity, told_verdict, reply_for, history_for};
 ghost use Rattle.loopback_server.specs.Pages.{last_writes};
 ghost use Rattle.loopback_server.specs.Stores.{history_of, IsIndexed};
@@ -28,6 +29,7 @@ pub struct Server {
 }
 
 impl Model for Server {
+    ghost use Rattle.loopback_server.specs.Extras.{HoldCanonicalExtras};
     ghost use Rattle.loopback_server.specs.Servers.{Served};
     ghost use Rattle.loopback_server.specs.Stores.{history_of, IsIndexed};
 
@@ -35,7 +37,7 @@ impl Model for Server {
 
     ghost view = { λ server. record { birthday = server.birthday; history = history_of server.store } };
 
-    ghost invariant = { λ server. IsIndexed server.store };
+    ghost invariant = { λ server. IsIndexed server.store × HoldCanonicalExtras (history_of server.store) };
 }
 
 // Two texts are not the same.
@@ -57,7 +59,9 @@ fn is_foreign(own: &Octets, birthday: &Option<Octets>) -> bool
 
 // What is said to a request that is accepted.
 fn answer(store: &mut Store, request: &Request) -> Result<Reply, NoMemory>
-    requires { IsIndexed store.old }
+    requires indexed { IsIndexed store.old }
+    requires stored { HoldCanonicalExtras (history_of store.old) }
+    requires canonical { HasCanonicalRequest request.now }
     ensures reply { IfOk result (λ reply. reply
         ≡ told_verdict (entries_of (call_in request.now)) (verdict_on is_invalid (history_of store.old) (call_in request.now))) }
     ensures history { OnOk result (history_of store.new
@@ -83,11 +87,13 @@ impl Server {
         }
     }
 
-    /// Handles a message. A commit takes time that grows with its bytes and, for each entity, with the logarithm of the
-    /// number of keys; a get-updates takes one pass over the keys, and time that grows with the bytes of what is told and,
-    /// for each key that is wanted, with the logarithm of their number.
+    /// Handles a message, whose entities have canonical extras, as those have that are decoded. A commit takes time that
+    /// grows with its bytes and, for each entity, with the logarithm of the number of keys; a get-updates takes one pass
+    /// over the keys, and time that grows with the bytes of what is told and, for each key that is wanted, with the
+    /// logarithm of their number.
     #[tactic(auto, unfolding(crate::specs::Messages::reply_for, crate::specs::Messages::history_for, sync_model::specs::Servers::reply_to, sync_model::specs::Servers::history_served))]
     pub fn handle(&mut self, request: &ToServer) -> Result<FromServer, NoMemory>
+        requires { HasCanonicalRequest request.now.request }
         ensures reply { IfOk result (λ reply. reply ≡ reply_for self.old.birthday self.old.history request.now) }
         ensures history { OnOk result (self.new.history ≡ history_for self.old.birthday self.old.history request.now) }
         ensures birthday { self.new.birthday ≡ self.old.birthday }

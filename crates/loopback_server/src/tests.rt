@@ -1,5 +1,7 @@
 ghost use Rattle.std.specs.Prelude.{IfOk};
+ghost use Rattle.sync_messages.specs.Laws.{HasCanonicalRequest};
 ghost use Rattle.sync_model.specs.History.{IsBased};
+ghost use Rattle.sync_specifics.specs.Extras.{HasCanonicalExtra, HasCanonicalExtraIfSome};
 
 use super::*;
 use client_tags::{Kind, TagHash};
@@ -25,7 +27,10 @@ fn server(alloc: Global) -> Result<Server, NoMemory>
     Ok(Server::new(alloc, Octets::from_slice(alloc, b"here")?))
 }
 
-fn entity(alloc: Global, specifics: Specifics, number: u8, version: i64, deleted: bool) -> Entity {
+fn entity(alloc: Global, specifics: Specifics, number: u8, version: i64, deleted: bool) -> Entity
+    requires { HasCanonicalExtra specifics }
+    ensures { HasCanonicalExtraIfSome result.specifics }
+{
     Entity {
         id: Octets::new(alloc),
         version,
@@ -37,15 +42,21 @@ fn entity(alloc: Global, specifics: Specifics, number: u8, version: i64, deleted
     }
 }
 
-fn preference(alloc: Global, number: u8, version: i64) -> Result<Entity, NoMemory> {
+#[tactic(auto, using(crate::proofs::NoExtra::no_extra))]
+fn preference(alloc: Global, number: u8, version: i64) -> Result<Entity, NoMemory>
+    ensures { IfOk result (λ entity. HasCanonicalExtraIfSome entity.specifics) }
+{
     let specifics = Specifics::Preference(Preference {
         name: Octets::from_slice(alloc, b"a")?,
         value: Octets::from_slice(alloc, b"1")?,
+        extra: Octets::new(alloc),
     });
     Ok(entity(alloc, specifics, number, version, false))
 }
 
-fn password(alloc: Global, number: u8, version: i64) -> Result<Entity, NoMemory> {
+fn password(alloc: Global, number: u8, version: i64) -> Result<Entity, NoMemory>
+    ensures { IfOk result (λ entity. HasCanonicalExtraIfSome entity.specifics) }
+{
     let specifics = Specifics::Password(Sealed {
         key_name: Octets::from_slice(alloc, b"k")?,
         blob: Octets::from_slice(alloc, b"text")?,
@@ -53,11 +64,16 @@ fn password(alloc: Global, number: u8, version: i64) -> Result<Entity, NoMemory>
     Ok(entity(alloc, specifics, number, version, false))
 }
 
-fn deletion(alloc: Global, kind: Kind, number: u8, version: i64) -> Entity {
+fn deletion(alloc: Global, kind: Kind, number: u8, version: i64) -> Entity
+    ensures { HasCanonicalExtraIfSome result.specifics }
+{
     entity(alloc, Specifics::EmptyOf(kind), number, version, true)
 }
 
-fn commit_of(alloc: Global, entity: Entity) -> Result<ToServer, NoMemory> {
+fn commit_of(alloc: Global, entity: Entity) -> Result<ToServer, NoMemory>
+    requires { HasCanonicalExtraIfSome entity.specifics }
+    ensures { IfOk result (λ message. HasCanonicalRequest message.request) }
+{
     let mut entries = List::new(alloc);
     entries.push(entity)?;
     Ok(ToServer {
@@ -70,6 +86,7 @@ fn commit_of(alloc: Global, entity: Entity) -> Result<ToServer, NoMemory> {
 }
 
 fn reply_to(server: &mut Server, message: &ToServer) -> Result<Reply, NoMemory>
+    requires { HasCanonicalRequest message.now.request }
     ensures { IsBased server.old.history → IsBased server.new.history }
 {
     let FromServer {
@@ -85,6 +102,7 @@ fn commit(
     server: &mut Server,
     entity: Entity,
 ) -> Result<Option<EntryAnswer>, NoMemory>
+    requires { HasCanonicalExtraIfSome entity.specifics }
     ensures { IsBased server.old.history → IsBased server.new.history }
 {
     match reply_to(server, &commit_of(alloc, entity)?)? {

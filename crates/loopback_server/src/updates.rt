@@ -4,11 +4,12 @@ ghost use Rattle.std.specs.BTreeSet.{contains, IsOrdered};
 ghost use Rattle.std.specs.List.{AllByRecursion};
 ghost use Rattle.std.specs.Ordering.{nat_cmp};
 ghost use Rattle.sync_specifics.specs.declared.specifics.Specifics.{Specifics as AnySpecifics};
-ghost use Rattle.sync_messages.specs.Laws.{IsEntity, IsMarker};
+ghost use Rattle.sync_messages.specs.Laws.{FitsTypes, IsEntity, IsMarker};
 ghost use Rattle.sync_model.specs.declared.message.Entry.{Entry as AnyEntry};
 ghost use Rattle.sync_model.specs.declared.message.Marker.{Marker as AnyMarker};
 ghost use Rattle.sync_model.specs.History.{write_at};
 ghost use Rattle.sync_model.specs.Servers.{wanted_writes, updates_of};
+ghost use Rattle.loopback_server.specs.Extras.{HoldCanonicalExtras};
 ghost use Rattle.loopback_server.specs.Messages.{marker_in, told_entity, told_updates};
 ghost use Rattle.loopback_server.specs.Pages.{asked_of, given_at, last_writes, wanted_versions, IsPage};
 ghost use Rattle.loopback_server.specs.Stores.{entry_of, history_of, IsIndexed};
@@ -65,7 +66,7 @@ impl Store {
         ensures page { OnOk result ((wanted : Sequence (AnyEntry (Maybe AnySpecifics))) → IsPage page.old wanted
             → IsPage page.new (wanted ++ given_at (history_of self.now) version)) }
         ensures few { OnOk result (page.new.remaining ≤ page.old.remaining + 1) }
-        ensures sayable { OnOk result (AllByRecursion IsEntity page.old.entries.items → AllByRecursion IsEntity page.new.entries.items) }
+        ensures typed { OnOk result (AllByRecursion FitsTypes page.old.entries.items → AllByRecursion FitsTypes page.new.entries.items) }
     {
         match self.write(version) {
             None => Ok(()),
@@ -78,7 +79,7 @@ impl Store {
         ensures page { (marks : Sequence AnyMarker) → versions.now.keys ≡ wanted_versions marks (history_of self.now)
             → IfOk result (λ page. IsPage page (wanted_writes marks (history_of self.now) (history_of self.now))) }
         ensures few { IfOk result (λ page. page.remaining < 2 ^ 63) }
-        ensures sayable { IfOk result (λ page. AllByRecursion IsEntity page.entries.items) }
+        ensures typed { IfOk result (λ page. AllByRecursion FitsTypes page.entries.items) }
     {
         let mut page = Page::new(self.alloc());
         for version in versions {
@@ -90,7 +91,8 @@ impl Store {
     /// What a get-updates is told. It takes one pass over the keys, and time that grows with the bytes of what is told
     /// and, for each key that is wanted, with the logarithm of their number.
     pub(crate) fn updates(&self, marks: &[Marker]) -> Result<Updates, NoMemory>
-        requires { IsIndexed self.now }
+        requires indexed { IsIndexed self.now }
+        requires canonical { HoldCanonicalExtras (history_of self.now) }
         ensures told { IfOk result (λ updates. updates ≡ told_updates (updates_of (history_of self.now) (map marker_in marks.now)
             (wanted_writes (map marker_in marks.now) (history_of self.now) (history_of self.now)))) }
         ensures few { IfOk result (λ updates. updates.remaining < 2 ^ 63) }

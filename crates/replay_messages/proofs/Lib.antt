@@ -1,4 +1,4 @@
 mod Formed
 mod ToldBack
-mod PlainEntries
+pub mod PlainEntries
 mod SayableReplies

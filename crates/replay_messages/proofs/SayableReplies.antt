@@ -8,7 +8,10 @@ use Rattle.std.specs.Option.{option_or}
 use Rattle.std.specs.Prelude.{◌==◌, FitsSigned, max, if◌then◌else◌}
 use Rattle.client_tags.specs.declared.Kind.{Kind}
 use Rattle.client_tags.specs.declared.Kind.TheVariants.{Nigori, Preference, Password}
+use Rattle.sync_values.specs.declared.value.Value.{Value}
+use Rattle.sync_values.specs.declared.value.Value.TheVariants as values
 use Rattle.sync_specifics.specs.declared.specifics.Specifics.{Specifics}
+use Rattle.sync_specifics.specs.Extras.{HasCanonicalExtra}
 use Rattle.sync_messages.specs.Laws.{IsEntity, IsMarker, IsAnswer, IsSayableRequest, IsSayableReply}
 use Rattle.sync_model.specs.declared.message.Answer.{Answer}
 use Rattle.sync_model.specs.declared.message.Answer.TheVariants.{Success, Conflict, Invalid, OverQuota}
@@ -24,20 +27,32 @@ use Rattle.sync_model.specs.Servers.{mark_of, is_wanted, as_given, wanted_writes
 use Rattle.sync_model.specs.Values.{same_kind}
 use Rattle.sync_model.specs.Worlds.{STORE_BIRTHDAY, is_invalid_entry}
 use Rattle.loopback_server.specs.Messages.{told_answers, told_entity, told_marker, told_verdict, entries_of}
-use Rattle.replay_messages.specs.Forms.{form, IsPlain, IsPlainCall, call_formed, verdict_formed}
+use Rattle.replay_messages.specs.Forms.{plain_specifics, form, IsPlain, IsPlainCall, IsPlainValue, call_formed, verdict_formed}
 use Rattle.replay_messages.specs.Laws.{RepliesAreSayable}
 use Rattle.replay_messages.specs.Messages.{entity_of, call_told, reply_told}
-use Rattle.replay_messages.proofs.PlainEntries.{all_of_both, all_of_first, wanted_are_plain}
+use Rattle.loopback_server.proofs.EachEntry.{all_of_both, all_of_first, all_mapped}
+use Rattle.replay_messages.proofs.PlainEntries.{wanted_are_plain}
 
 fits : (version : ℕ) → version < 2 ^ 64 → FitsSigned w64 (cast_signed w64 version)
 fits version below = sfits_to_z {w = w64} {n = version} (omega (arith, below))
 
 -- a client's request
 
+-- what a plain value holds as specifics has a canonical extra
+plain_canonical : (kind : Kind) (value : Value) → IsPlainValue value → HasCanonicalExtra (plain_specifics kind value)
+plain_canonical kind values.Absent plain = tt
+plain_canonical kind (values.Preference preference) plain = plain
+plain_canonical kind (values.Password password) plain = tt
+plain_canonical kind (values.Nigori nigori) plain = tt
+
+entry_sayable : (entry : Entry Content) → IsPlain entry → IsEntity (entity_of entry)
+entry_sayable entry plain = record {
+  fits = record { version = fits entry.version plain.version; hash = plain.hash };
+  extra = plain_canonical entry.key.kind entry.content.value plain.value;
+}
+
 entities_sayable : (entries : List (Entry Content)) → AllByRecursion IsPlain entries → AllByRecursion IsEntity (map entity_of entries)
-entities_sayable [] plain = tt
-entities_sayable (entry ∷ entries) plain =
-    ((fits entry.version plain.0.version, plain.0.hash), entities_sayable entries plain.1)
+entities_sayable entries plain = all_mapped IsPlain IsEntity entity_of entry_sayable entries plain
 
 pub markers_sayable : (marks : List Marker) → AllByRecursion (λ (marker : Marker). marker.mark < 2 ^ 64) marks → AllByRecursion IsMarker (map told_marker marks)
 markers_sayable [] fit = tt
@@ -96,10 +111,15 @@ answers_sayable (entry ∷ entries) (answer ∷ answers) fit =
 
 -- updates
 
+write_sayable : (entry : Entry Content) → IsPlain entry → IsEntity (told_entity (form entry))
+write_sayable entry plain = record {
+  fits = record { version = fits entry.version plain.version; hash = plain.hash };
+  extra = plain_canonical entry.key.kind entry.content.value plain.value;
+}
+
 writes_sayable : (entries : List (Entry Content)) → AllByRecursion IsPlain entries → AllByRecursion IsEntity (map told_entity (map form entries))
 writes_sayable [] plain = tt
-writes_sayable (entry ∷ entries) plain =
-    ((fits entry.version plain.0.version, plain.0.hash), writes_sayable entries plain.1)
+writes_sayable (entry ∷ entries) plain = (write_sayable entry plain.0, writes_sayable entries plain.1)
 
 -- a write is given once at most
 few_given : (wanted : Bool) (version : ℕ) (write : Entry Content) → length (if wanted then as_given version write ∷ [] else []) ≤ 1
@@ -178,7 +198,7 @@ verdict_sayable : (history : List (Entry Content)) (call : Call Content) → All
 verdict_sayable history (calls.Commit entries) all short plain =
     answers_sayable (map form entries) (answers_to is_invalid_entry history entries) (answers_fit history entries)
 verdict_sayable history (calls.Updates marks) all short plain =
-    updates_sayable history marks (wanted_writes marks history history) short plain (wanted_are_plain marks history history all short)
+    updates_sayable history marks (wanted_writes marks history history) short plain (wanted_are_plain marks history all short)
     (few_wanted marks history history)
 
 verdict_unless_foreign : (foreign : Bool) (entries : List (Entry (Option Specifics))) (verdict : Verdict Content)

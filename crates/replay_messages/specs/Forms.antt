@@ -6,6 +6,8 @@ use Rattle.client_tags.specs.declared.Kind.TheVariants.{Preference as preference
 use Rattle.client_tags.specs.Hashes.{IsHash}
 use Rattle.sync_specifics.specs.declared.specifics.Specifics.{Specifics}
 use Rattle.sync_specifics.specs.declared.specifics.Specifics.TheVariants as specifics
+use Rattle.message_fields.specs.Unknown.{IsCanonicalExtra}
+use Rattle.sync_specifics.specs.Preferences.{preference_fields}
 use Rattle.sync_values.specs.declared.value.Value.{Value}
 use Rattle.sync_values.specs.declared.value.Value.TheVariants.{Absent, Preference, Password, Nigori}
 use Rattle.sync_model.specs.declared.message.Call.{Call}
@@ -33,10 +35,10 @@ form entry = record {
   content = Some (plain_specifics entry.key.kind entry.content.value);
 }
 
--- a preference, or none
+-- a preference with a canonical extra, or none
 abbrev pub IsPlainValue : Value → Type 0
 IsPlainValue Absent = Unit {0}
-IsPlainValue (Preference preference) = Unit {0}
+IsPlainValue (Preference preference) = IsCanonicalExtra preference_fields preference.extra
 IsPlainValue (Password password) = ⊥
 IsPlainValue (Nigori nigori) = ⊥
 

@@ -59,12 +59,14 @@ fn commit_of(alloc: Global, entry: Entry<Content>) -> Result<Request<Content>, N
 }
 
 // The request to store the preference `a` with the value `1`.
+#[tactic(auto, using(loopback_server::proofs::NoExtra::no_extra))]
 fn set_a(alloc: Global) -> Result<Request<Content>, NoMemory>
     ensures { IfOk result (λ request. IsPlainCall request.call) }
 {
     let name = Octets::from_slice(alloc, b"a")?;
     let value = Octets::from_slice(alloc, b"1")?;
     let hash = hash_of_a(alloc)?;
-    let preference = Preference { name, value };
+    let extra = Octets::new(alloc);
+    let preference = Preference { name, value, extra };
     commit_of(alloc, plain_entry(hash, 0, Value::Preference(preference)))
 }

@@ -16,7 +16,7 @@ loop-version-preserved c = record {
   page = page_more c.add_version.new.page _ _
       (given_more (given_at (history_of c.args.self.now)) c.loop-version.invariant.done c.in-Some.version.now)
       (c.in_ok-add_version.ensures.page _ c.loop-version.invariant.page);
-  sayable = c.in_ok-add_version.ensures.sayable c.loop-version.invariant.sayable;
+  typed = c.in_ok-add_version.ensures.typed c.loop-version.invariant.typed;
 }
 
 pub returns-clause-page : goal.returns-clause-page

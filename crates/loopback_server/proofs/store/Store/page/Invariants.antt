@@ -1,6 +1,6 @@
 use Rattle.std.proofs.Common.{◌≡◌, ◌≤◌, ℕ, List, ◌++◌, length}
 use Rattle.std.specs.List.{AllByRecursion, flat_map}
-use Rattle.sync_messages.specs.Laws.{IsEntity}
+use Rattle.sync_messages.specs.Laws.{FitsTypes}
 use Rattle.loopback_server.specs.Pages.{given_at, IsPage}
 use Rattle.loopback_server.specs.Stores.{history_of}
 use Rattle.loopback_server.proofs.store.Store.page.Given as goal
@@ -11,5 +11,5 @@ invariant-loop-version l = record {
   all : done ++ l.version-iterator ≡ l.fn.versions.keys;
   few : l.page.remaining ≤ length done;
   page : IsPage l.page (flat_map (given_at (history_of l.self)) done);
-  sayable : AllByRecursion IsEntity l.page.entries.items;
+  typed : AllByRecursion FitsTypes l.page.entries.items;
 }
