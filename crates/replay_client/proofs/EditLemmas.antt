@@ -9,7 +9,7 @@ use Rattle.sync_values.specs.declared.edit.Edit.{Edit}
 use Rattle.sync_model.specs.declared.event.EventOutcome.TheVariants.{Void, Edited as Edited_outcome}
 use Rattle.sync_model.specs.declared.fate.Settlement.{Settlement}
 use Rattle.sync_model.specs.declared.refusal.EditRefusal.{EditRefusal}
-use Rattle.sync_model.specs.Changes.{side_refusal, edit_refusal, follows, edit_effect_at, edit_taken, edit_effect, change_effect}
+use Rattle.sync_model.specs.Changes.{edit_refusal_at, edit_refusal, follows, edit_effect_at, edit_taken, edit_effect, change_effect}
 use Rattle.sync_model.specs.Clients.{Client, Effect, side_of}
 use Rattle.sync_model.specs.Edits.{edit_kind, edit_length}
 use Rattle.sync_model.specs.Values.{same_kind}
@@ -17,7 +17,7 @@ use Rattle.sync_model.specs.Worlds.{settlement_of}
 use Rattle.type_processor.specs.declared.answers.EditFault.{EditFault}
 use Rattle.type_processor.specs.declared.answers.EditFault.TheVariants as faults
 use Rattle.type_processor.specs.declared.answers.Edited.{Edited}
-use Rattle.type_processor.specs.Edits.{edit_hash, refusal_of, edited_by, edit_told, IsFaultOf, IsFaultAt}
+use Rattle.type_processor.specs.Edits.{edit_hash, own_before, is_found_at_once, refusal_of, edited_by, edit_told, IsFaultOf, IsFaultAt}
 use Rattle.type_processor.specs.Processed.{Processed}
 use Rattle.replay_client.specs.declared.client.Client.TheInside.{Inside}
 use Rattle.replay_client.specs.Clients.{client_of}
@@ -32,7 +32,7 @@ with_processor inside processor = record inside { preference = record inside.pre
 -- a client refuses an edit of a preference as its processor does
 same_refusal : (inside : Inside) (edit : Edit) → edit_kind edit ≡ Preference → edit_refusal hashed (client_of inside) edit ≡ refusal_of inside.preference.processor edit
 unfolding hashed
-same_refusal inside edit is = ap (λ (kind : Kind). side_refusal (side_of (client_of inside) kind) (edit_hash edit) (edit_length edit)) is
+same_refusal inside edit is = ap (λ (kind : Kind). edit_refusal_at (side_of (client_of inside) kind) (edit_hash edit) edit) is
 
 where_false : {A : Type 0} (test : Bool) (x y : A) → test ≡ false → cond test x y ≡ y
 where_false test x y is = rw is refl
@@ -66,10 +66,10 @@ edit_done inside number edit copy edited new before settled is same none is_new 
     (ap (λ processor. client_of (with_processor inside processor)) (is_new ∙ ap (edited_by inside.preference.processor) same))
     (is_settled ∙ ap (λ (told : Edited). before ++ map (settlement_of number Preference) (follows told.followed told.number)) (is_edited ∙ ap (edit_told inside.preference.processor) same))
 
-is_refused : (refusal : Option EditRefusal) (len : ℕ) (fault : EditFault) → IsRefusal fault → IsFaultOf refusal len fault → is_some refusal ≡ true
-is_refused refusal len (faults.TooLong told) refused is = ap is_some is.0
-is_refused refusal len (faults.Full count) refused is = ap is_some is
-is_refused refusal len faults.NoMemory refused is = absurd refused
+is_refused : (found : Bool) (refusal : Option EditRefusal) (len : ℕ) (fault : EditFault) → IsRefusal fault → IsFaultOf found refusal len fault → is_some refusal ≡ true
+is_refused found refusal len (faults.TooLong told) refused is = ap is_some is.0
+is_refused found refusal len (faults.Full count) refused is = ap is_some is
+is_refused found refusal len faults.NoMemory refused is = absurd refused
 
 -- an edit that the processor refuses
 pub edit_void : (inside : Inside) (number : ℕ) (edit copy : Edit) (fault : EditFault) (new : Processed Preferences) (before settled : List Settlement) → edit_kind edit ≡ Preference → copy ≡ edit
@@ -81,5 +81,5 @@ edit_void inside number edit copy fault new before settled is same refused fault
     (is_change inside number edit is
     ∙ voided (is_some (edit_refusal hashed (client_of inside) edit)) (edit_taken hashed number edit (client_of inside))
     (ap is_some (same_refusal inside edit is) ∙ ap (λ own. is_some (refusal_of inside.preference.processor own)) (sym same)
-    ∙ is_refused (refusal_of inside.preference.processor copy) (edit_length copy) fault refused faulty))
+    ∙ is_refused (is_found_at_once copy) (refusal_of inside.preference.processor copy) (edit_length (own_before inside.preference.processor copy) copy) fault refused faulty))
     refl (ap (λ processor. client_of (with_processor inside processor)) is_new) is_settled

@@ -7,3 +7,5 @@ mod MailLemmas
 mod ReplyLemmas
 mod ReadingLemmas
 mod ServedReplies
+mod PlainStates
+mod PlainSides

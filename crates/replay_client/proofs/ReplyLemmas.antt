@@ -37,13 +37,13 @@ use Rattle.sync_model.specs.Servers.{mark_of}
 use Rattle.sync_model.specs.Values.{same_kind}
 use Rattle.loopback_server.specs.Entries.{is_empty}
 use Rattle.loopback_server.specs.Messages.{marker_in, told_marker, told_answer, told_answers, told_entity, told_verdict, entries_of}
-use Rattle.type_processor.specs.Fits.{LAST_VERSION, may_have, IsAckOf}
+use Rattle.type_processor.specs.Fits.{LAST_VERSION, may_have}
 use Rattle.replay_messages.specs.Forms.{IsPlain, IsPlainValue, IsPlainCall, form, plain_specifics, call_formed, verdict_formed}
 use Rattle.replay_messages.specs.Messages.{reply_told}
 use Rattle.replay_client.specs.declared.letters.Letters.{Letters}
 use Rattle.replay_client.specs.Happenings.{HappensAlone}
 use Rattle.replay_client.specs.Readings.{ack_at, ack_by, ack_read, acks_read, value_read, update_at, update_read, updates_read, batch_read, letters_of_updates, letters_read}
-use Rattle.replay_client.specs.Mail.{IsPlainTask}
+use Rattle.replay_client.specs.Mail.{IsPlainAck, IsPlainTask}
 use Rattle.replay_client.specs.Replies.{IsVersioned, IsPlainWrite, IsReplyTo, with_letters}
 use Rattle.replay_client.proofs.Effects.{alone}
 use Rattle.replay_client.proofs.HeldLemmas.{all_append}
@@ -246,11 +246,17 @@ may_have_it (values.Preference preference) plain = refl
 may_have_it (values.Password password) plain = absurd plain
 may_have_it (values.Nigori nigori) plain = absurd plain
 
-ack_if : (entry : Entry Content) (version : ℕ) (test : Bool) → IsPlain entry → nat_le version LAST_VERSION ≡ test → AllByRecursion (IsAckOf Preference) (cond test (ack_of entry version ∷ []) [])
-ack_if entry version true plain is = (record { hash = plain.hash; version = leb-true version LAST_VERSION is; value = may_have_it entry.content.value plain.value }, tt)
+ack_if : (entry : Entry Content) (version : ℕ) (test : Bool) → IsPlain entry → nat_le version LAST_VERSION ≡ test → AllByRecursion IsPlainAck (cond test (ack_of entry version ∷ []) [])
+ack_if entry version true plain is = (
+  record {
+    fits = record { hash = plain.hash; version = leb-true version LAST_VERSION is; value = may_have_it entry.content.value plain.value };
+    value = plain.value;
+  },
+  tt,
+)
 ack_if entry version false plain is = tt
 
-plain_ack : (entry : Entry Content) (version : ℕ) (outcome : Outcome) → IsPlain entry → AllByRecursion (IsAckOf Preference) (ack_by entry version outcome)
+plain_ack : (entry : Entry Content) (version : ℕ) (outcome : Outcome) → IsPlain entry → AllByRecursion IsPlainAck (ack_by entry version outcome)
 plain_ack entry version outcomes.Success plain = ack_if entry version (nat_le version LAST_VERSION) plain refl
 plain_ack entry version outcomes.Conflict plain = tt
 plain_ack entry version outcomes.Retry plain = tt
@@ -258,14 +264,14 @@ plain_ack entry version outcomes.Invalid plain = tt
 plain_ack entry version outcomes.OverQuota plain = tt
 plain_ack entry version outcomes.Transient plain = tt
 
-plain_acks : (entries : List (Entry Content)) (answers : List EntryAnswer) → AllByRecursion IsPlain entries → AllByRecursion (IsAckOf Preference) (acks_read entries answers)
+plain_acks : (entries : List (Entry Content)) (answers : List EntryAnswer) → AllByRecursion IsPlain entries → AllByRecursion IsPlainAck (acks_read entries answers)
 unfolding acks_read
 plain_acks [] answers plain = tt
 plain_acks (entry ∷ entries) [] plain = tt
 plain_acks (entry ∷ entries) (answer ∷ answers) plain =
-    all_append (IsAckOf Preference) (ack_read entry answer) (acks_read entries answers) (plain_ack entry (cast_unsigned w64 answer.version) answer.outcome plain.0) (plain_acks entries answers plain.1)
+    all_append IsPlainAck (ack_read entry answer) (acks_read entries answers) (plain_ack entry (cast_unsigned w64 answer.version) answer.outcome plain.0) (plain_acks entries answers plain.1)
 
-plain_letter : (acks : List Ack) → AllByRecursion (IsAckOf Preference) acks → IfSome (letter_of acks) IsPlainTask
+plain_letter : (acks : List Ack) → AllByRecursion IsPlainAck acks → IfSome (letter_of acks) IsPlainTask
 plain_letter [] all = tt
 plain_letter (ack ∷ acks) all = all
 

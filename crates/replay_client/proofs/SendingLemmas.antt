@@ -1,8 +1,8 @@
 -- What a client of preferences that nothing seals sends.
 use Rattle.std.proofs.Common.{◌≡◌, ℕ, zero, suc, ◌-◌, arith, ◌≤◌, ◌<◌, ◌^◌, Bool, true, false, cond, List, [], ◌∷◌, ◌++◌, length, take, Option, Some, None, refl, sym, ap, ◌∙◌, subst, IsTrue}
 use Rattle.std.proofs.lemmas.Bool.{false≢true}
-use Rattle.std.proofs.lemmas.List.{append-nil}
-use Rattle.std.specs.Prelude.{◌==◌, ◌||◌, count_by}
+use Rattle.std.proofs.lemmas.List.{append-nil, length-take}
+use Rattle.std.specs.Prelude.{◌==◌, ◌||◌, if◌then◌else◌, min, count_by}
 use Rattle.std.specs.List.{AllByRecursion}
 use Rattle.client_tags.specs.declared.Kind.{Kind}
 use Rattle.client_tags.specs.declared.Kind.TheVariants.{Nigori, Preference, Password}
@@ -15,20 +15,21 @@ use Rattle.sync_model.specs.declared.message.Content.{Content}
 use Rattle.sync_model.specs.declared.message.Entry.{Entry}
 use Rattle.sync_model.specs.declared.message.Marker.{Marker}
 use Rattle.sync_model.specs.declared.message.Offer.{Offer}
-use Rattle.sync_model.specs.Clients.{Client, Effect, side_of, plain_effect, nigori_base, wanted_name}
-use Rattle.sync_model.specs.Offers.{with_all_due, with_reseals, offers_of, reseal_count}
+use Rattle.sync_model.specs.Clients.{Client, Effect, side_of, with_side, plain_effect, nigori_base, wanted_name}
+use Rattle.sync_model.specs.Offers.{with_all_due, with_reseals, due_offers, reseal_offers, offers_of, reseal_count}
 use Rattle.sync_model.specs.Settings.{nigori_hash}
-use Rattle.sync_model.specs.Sides.{States, state_at}
+use Rattle.sync_model.specs.Sides.{States, state_at, after_offers, side_offered}
 use Rattle.sync_model.specs.Values.{is_absent}
-use Rattle.sync_model.specs.Sending.{MAX_ENTRIES, entry_of, sealed, lock_for, drawn_for, drawn_after, is_held_back, lacks_own_lock, offers_if_had, gathered, holding, gathering, is_gather_void, gather_effect, is_busy, seen_marks, ask_of, ask_effect, commit_of, offer_effect}
-use Rattle.type_processor.specs.Fits.{may_have, IsOfferOf}
+use Rattle.sync_model.specs.Sending.{MAX_ENTRIES, entry_of, sealed, lock_for, drawn_for, drawn_after, is_held_back, lacks_own_lock, asked_offers, offers_if_had, gathered, holding, noting, gathering, is_gather_void, gather_effect, is_busy, seen_marks, ask_of, ask_effect, commit_of, offer_effect}
+use Rattle.type_processor.specs.Fits.{IsOfferOf}
 use Rattle.replay_messages.specs.Forms.{IsPlain, IsPlainValue}
 use Rattle.replay_client.specs.declared.client.Client.TheInside.{Inside}
-use Rattle.replay_client.specs.Clients.{client_of}
+use Rattle.replay_client.specs.Clients.{client_of, HavePlainValues}
 use Rattle.replay_client.specs.Requests.{marks_with}
 use Rattle.replay_client.specs.Happenings.{HappensAlone}
 use Rattle.replay_client.proofs.Effects.{voided, made, alone_void, alone}
 use Rattle.replay_client.proofs.HeldLemmas.{either_way, none_drawn, all_append}
+use Rattle.replay_client.proofs.PlainStates.{HasPlainValue, due_offers_plain}
 
 -- a client without states of keys has no keys
 pub no_base : (client : Client) → client.nigori.states ≡ [] → nigori_base hashed client ≡ values.Absent
@@ -50,20 +51,24 @@ pub no_reseal_count : (states : States) → reseal_count None states ≡ 0
 no_reseal_count [] = refl
 no_reseal_count (key ∷ states) = no_reseal_count states
 
--- all that is offered of preferences may be sent
-plain_gathered : (client : Client) → client.nigori.states ≡ [] → gathered hashed Preference client ≡ offers_of None (MAX_ENTRIES - length client.held) client.preference.states
-plain_gathered client none = rw none refl
+-- all that is offered of preferences is asked for, and may be sent
+plain_asked : (client : Client) → client.nigori.states ≡ [] → asked_offers hashed Preference client ≡ offers_of None (MAX_ENTRIES - length client.held) client.preference.states
+plain_asked client none = rw none refl
 
--- what is to be sent of preferences joins what is held
+-- what is to be sent of preferences joins what is held, and is noted
 pub joined : (client : Client) (held : List (Entry Content)) (room : ℕ) (offers : List Offer) → client.nigori.states ≡ [] → client.drawn ≡ 0
     → room ≡ MAX_ENTRIES - length client.held → offers ≡ offers_of None room client.preference.states → held ≡ client.held ++ sealed Preference None 0 offers
-    → (record client { held = held }) ≡ gathering hashed Preference client None
+    → (record client { held = held; preference = side_offered client.preference offers }) ≡ gathering hashed Preference client None
 joined client held room offers none undrawn is_room is_offers is_held =
-    let all : List Offer = gathered hashed Preference client in
-    let same : offers ≡ all = is_offers ∙ ap (λ n. offers_of None n client.preference.states) is_room ∙ sym (plain_gathered client none) in
-    let after : (record client { held = held }) ≡ holding Preference None all client =
-    (λ i. record client { held = (is_held ∙ (λ j. client.held ++ sealed Preference None (sym undrawn j) (same j))) i; drawn = sym (none_drawn client.drawn all) i }) in
-    after ∙ ap (λ name. holding Preference name all client) (sym (plain_wanted client Preference none))
+    let all : List Offer = asked_offers hashed Preference client in
+    let same : offers ≡ all = is_offers ∙ ap (λ n. offers_of None n client.preference.states) is_room ∙ sym (plain_asked client none) in
+    let after : (record client { held = held; preference = side_offered client.preference offers }) ≡ noting Preference all (holding Preference None all client) =
+    (λ i. record client {
+      held = (is_held ∙ (λ j. client.held ++ sealed Preference None (sym undrawn j) (same j))) i;
+      drawn = sym (none_drawn client.drawn all) i;
+      preference = side_offered client.preference (same i);
+    }) in
+    after ∙ ap (λ name. noting Preference all (holding Preference name all client)) (sym (plain_wanted client Preference none))
 
 either_nil : (test : Bool) → cond test [] [] ≡ (let none : List Offer = [] in none)
 either_nil true = refl
@@ -74,20 +79,37 @@ take_nil zero = refl
 take_nil (suc room) = refl
 
 -- a type without states has nothing to send
-nothing_gathered : (client : Client) (kind : Kind) → (side_of client kind).states ≡ [] → gathered hashed kind client ≡ []
+nothing_asked : (client : Client) (kind : Kind) → (side_of client kind).states ≡ [] → asked_offers hashed kind client ≡ []
 unfolding with_all_due with_reseals
+nothing_asked client kind none =
+    ap (λ (states : States). if is_held_back hashed client kind then []
+    else offers_of (wanted_name hashed client kind) (MAX_ENTRIES - length client.held) states) none
+    ∙ ap (λ (offers : List Offer). if is_held_back hashed client kind then [] else offers) (take_nil (MAX_ENTRIES - length client.held))
+    ∙ either_nil (is_held_back hashed client kind)
+
+nothing_gathered : (client : Client) (kind : Kind) → (side_of client kind).states ≡ [] → gathered hashed kind client ≡ []
 nothing_gathered client kind none =
-    ap (λ (states : States). offers_if_had hashed kind client (offers_of (wanted_name hashed client kind) (MAX_ENTRIES - length client.held) states)) none
-    ∙ ap (offers_if_had hashed kind client) (take_nil (MAX_ENTRIES - length client.held))
-    ∙ either_nil (is_held_back hashed client kind || lacks_own_lock hashed kind client.bag [])
+    ap (offers_if_had hashed kind client.bag) (nothing_asked client kind none) ∙ either_nil (lacks_own_lock hashed kind client.bag [])
 
 nothing_held : (client : Client) (kind : Kind) (name : Option (List ℕ)) → holding kind name [] client ≡ client
 unfolding sealed drawn_for
 nothing_held client kind name = ap (λ held. record client { held = held }) (append-nil client.held)
 
+own_side : (client : Client) (kind : Kind) → with_side client kind (side_of client kind) ≡ client
+own_side client Nigori = refl
+own_side client Preference = refl
+own_side client Password = refl
+
+nothing_noted : (client : Client) (kind : Kind) → noting kind [] client ≡ client
+unfolding after_offers
+nothing_noted client kind = own_side client kind
+
 idle : (client : Client) (kind : Kind) → (side_of client kind).states ≡ [] → client ≡ gathering hashed kind client None
 idle client kind none =
-    sym (ap (λ offers. holding kind (wanted_name hashed client kind) offers client) (nothing_gathered client kind none) ∙ nothing_held client kind (wanted_name hashed client kind))
+    sym (ap (λ asked. noting kind asked (holding kind (wanted_name hashed client kind) (gathered hashed kind client) client)) (nothing_asked client kind none)
+    ∙ ap (λ offers. noting kind [] (holding kind (wanted_name hashed client kind) offers client)) (nothing_gathered client kind none)
+    ∙ ap (noting kind []) (nothing_held client kind (wanted_name hashed client kind))
+    ∙ nothing_noted client kind)
 
 pub gather_void : (client : Client) (kind : Kind) → is_gather_void kind client ≡ true → HappensAlone (gather_effect hashed kind client) Void client client
 unfolding gather_effect
@@ -134,39 +156,54 @@ offer_done number event client birthday entries rest is is_birthday is_entries i
     (λ i. Requested number record { birthday = is_birthday i; call = Commit (is_entries i) })
     (ap (λ held. record client { held = held; outstanding = Some event }) is_rest)
 
-plain_value : (value : Value) → IsTrue (may_have Preference value) → IsPlainValue value
-plain_value values.Absent may = tt
-plain_value (values.Preference preference) may = tt
-plain_value (values.Password password) may = absurd (false≢true may)
-plain_value (values.Nigori nigori) may = absurd (false≢true may)
-
 -- an offer of a preference as an entry
-plain_entry : (offer : Offer) → IsOfferOf Preference offer → IsPlain (entry_of Preference None 0 offer)
-plain_entry offer fits = record {
+plain_entry : (offer : Offer) → IsOfferOf Preference offer → IsPlainValue offer.value → IsPlain (entry_of Preference None 0 offer)
+plain_entry offer fits plain = record {
   kind = refl;
   hash = fits.hash;
-  value = plain_value offer.value fits.value;
+  value = plain;
   unlocked = refl;
   version = omega (arith, fits.known);
 }
 
 -- nothing seals what is offered of preferences
-sealed_plain : (offers : List Offer) → AllByRecursion (IsOfferOf Preference) offers → AllByRecursion IsPlain (sealed Preference None 0 offers)
+sealed_plain : (offers : List Offer) → AllByRecursion (IsOfferOf Preference) offers → AllByRecursion HasPlainValue offers
+    → AllByRecursion IsPlain (sealed Preference None 0 offers)
 unfolding sealed
-sealed_plain [] all = tt
-sealed_plain (offer ∷ offers) all =
+sealed_plain [] all plain = tt
+sealed_plain (offer ∷ offers) all plain =
     subst (λ lock. AllByRecursion IsPlain (entry_of Preference lock 0 offer ∷ sealed Preference None (drawn_after lock 0) offers))
-    (sym (either_way (is_absent offer.value))) (plain_entry offer all.0, sealed_plain offers all.1)
+    (sym (either_way (is_absent offer.value))) (plain_entry offer all.0 plain.0, sealed_plain offers all.1 plain.1)
 
--- nothing seals what is offered of a type that is preferences
-offers_plain : (kind : Kind) (offers items : List Offer) → kind ≡ Preference → items ≡ offers → AllByRecursion (IsOfferOf kind) offers → AllByRecursion IsPlain (sealed Preference None 0 items)
-offers_plain kind offers items is same all = sealed_plain items (rw (same, ← is) all)
+-- what is offered of a type that is preferences, whose values are plain
+offers_plain : (kind : Kind) (offers items : List Offer) (room : ℕ) (states : States) → kind ≡ Preference → items ≡ offers
+    → AllByRecursion (IsOfferOf kind) offers → offers ≡ offers_of None room states → HavePlainValues states
+    → AllByRecursion IsPlain (sealed Preference None 0 items)
+offers_plain kind offers items room states is same all are plain =
+    sealed_plain items (rw (same, ← is) all) (subst (AllByRecursion HasPlainValue) (sym (same ∙ are)) (asked_plain room states plain))
+  where
+    all_of_first : (count : ℕ) (offers : List Offer) → AllByRecursion HasPlainValue offers → AllByRecursion HasPlainValue (take count offers)
+    all_of_first zero offers all = tt
+    all_of_first (suc count) [] all = tt
+    all_of_first (suc count) (offer ∷ offers) all = (all.0, all_of_first count offers all.1)
+
+    asked_plain : (room : ℕ) (states : States) → HavePlainValues states → AllByRecursion HasPlainValue (offers_of None room states)
+    asked_plain room states plain =
+        all_of_first room (due_offers states ++ reseal_offers None states)
+        (all_append HasPlainValue (due_offers states) (reseal_offers None states) (due_offers_plain states plain)
+        (subst (AllByRecursion HasPlainValue) (sym (no_reseals [] states)) tt))
 
 -- what is held and the offers that join it
-pub joined_plain : (held joined : List (Entry Content)) (kind : Kind) (offers items : List Offer) → joined ≡ held ++ sealed Preference None 0 items → AllByRecursion IsPlain held
-    → kind ≡ Preference → items ≡ offers → AllByRecursion (IsOfferOf kind) offers → AllByRecursion IsPlain joined
-joined_plain held joined kind offers items is plain is_kind same all =
-    subst (λ (all : List (Entry Content)). AllByRecursion IsPlain all) (sym is) (all_append IsPlain held (sealed Preference None 0 items) plain (offers_plain kind offers items is_kind same all))
+pub joined_plain : (held joined : List (Entry Content)) (kind : Kind) (offers items : List Offer) (room : ℕ) (states : States)
+    → joined ≡ held ++ sealed Preference None 0 items → AllByRecursion IsPlain held → kind ≡ Preference → items ≡ offers
+    → AllByRecursion (IsOfferOf kind) offers → offers ≡ offers_of None room states → HavePlainValues states → AllByRecursion IsPlain joined
+joined_plain held joined kind offers items room states is plain is_kind same all are values =
+    subst (λ (all : List (Entry Content)). AllByRecursion IsPlain all) (sym is)
+    (all_append IsPlain held (sealed Preference None 0 items) plain (offers_plain kind offers items room states is_kind same all are values))
+
+-- no more are offered than there is room for
+pub few_offers : (room : ℕ) (offers : List Offer) (states : States) → offers ≡ offers_of None room states → length offers ≤ room
+few_offers room offers states is = omega (arith, ap length is, length-take room (due_offers states ++ reseal_offers None states))
 
 -- nothing of another type is to be sent
 pub idle_kind : (inside : Inside) (kind : Kind) → (kind ≡ Preference → ⊥) → inside.nigori.processor.states ≡ [] → inside.password.processor.states ≡ []

@@ -4,7 +4,7 @@ use Rattle.std.specs.List.{AllByRecursion}
 use Rattle.client_tags.specs.declared.Kind.TheVariants.{Preference as preference_kind}
 use Rattle.sync_model.specs.Clients as clients
 use Rattle.sync_model.specs.Sides as sides
-use Rattle.replay_messages.specs.Forms.{IsPlain}
+use Rattle.replay_messages.specs.Forms.{IsPlain, IsPlainValue}
 use Rattle.replay_client.specs.declared.client.Client.TheInside.{Inside}
 use Rattle.replay_client.specs.declared.side.Side.{Side}
 use Rattle.replay_client.specs.Mail.{IsPlainTask, IsIdleTask}
@@ -34,16 +34,26 @@ client_of client = record {
   outstanding = client.outstanding;
 }
 
+-- the own value of each key is plain
+abbrev pub HavePlainValues : sides.States → Type 0
+HavePlainValues states = AllByRecursion (λ key. IsPlainValue key.1.own) states
+
 -- a side that has no keys, and to which nothing of any key comes
 pub record IsIdle (side : sides.Side) : Type 0 where
   pub states : side.states ≡ []
   pub mailbox : AllByRecursion IsIdleTask side.mailbox
   pub letter : IfSome side.letter IsIdleTask
 
+-- a side of preferences that nothing seals: its own values, and what is on its way to it
+pub record IsPlainSide {Rules : Type 0} (side : Side Rules) : Type 0 where
+  pub kind : side.processor.kind ≡ preference_kind
+  pub values : HavePlainValues side.processor.states
+  pub mailbox : AllByRecursion IsPlainTask side.processor.mailbox
+  pub letter : IfSome side.letter IsPlainTask
+
 -- the sides of keys and of logins are idle, and nothing seals preferences
 pub record IsPlainClient (client : Inside) : Type 0 where
   pub nigori : IsIdle (side_of client.nigori)
   pub password : IsIdle (side_of client.password)
-  pub kind : client.preference.processor.kind ≡ preference_kind
-  pub letter : IfSome client.preference.letter IsPlainTask
+  pub preference : IsPlainSide client.preference
   pub held : AllByRecursion IsPlain client.held.items

@@ -2,6 +2,7 @@
 ghost use Rattle.std.specs.Prelude.{◌≡◌, ◌<◌, ◌++◌, map, vec_len, vec_capacity, IfOk, OnOk, OnErr};
 ghost use Rattle.client_tags.specs.declared.Kind.TheVariants.{Preference as preference_kind};
 ghost use Rattle.run_setting.specs.Hashed.{hashed};
+ghost use Rattle.sync_specifics.specs.Extras.{IsCanonicalEdit};
 ghost use Rattle.sync_model.specs.Changes.{change_effect, follows};
 ghost use Rattle.sync_model.specs.Edits.{edit_kind};
 ghost use Rattle.sync_model.specs.Worlds.{settlement_of};
@@ -20,6 +21,7 @@ fn copied_edit(edit: &Edit) -> Result<Edit, NoMemory>
 {
     match edit {
         Edit::SetPreference(preference) => Ok(Edit::SetPreference(preference.copy()?)),
+        Edit::NewerPreference(preference) => Ok(Edit::NewerPreference(preference.copy()?)),
         Edit::DeletePreference(name) => Ok(Edit::DeletePreference(name.copy()?)),
         _ => unreachable!(),
     }
@@ -65,7 +67,8 @@ impl Client {
         edit: &Edit,
         settlements: &mut Vec<Settlement>,
     ) -> Result<EventOutcome, NoMemory>
-        requires { edit_kind edit.now ≡ preference_kind }
+        requires preference { edit_kind edit.now ≡ preference_kind }
+        requires canonical { IsCanonicalEdit edit.now }
         ensures happens { IfOk result (λ outcome. Happens number (change_effect hashed number edit.now self.old) outcome
             self.old self.new settlements.old.items settlements.new.items) }
         ensures plain { IfOk result IsPlainOutcome }

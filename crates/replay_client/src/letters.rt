@@ -1,6 +1,7 @@
 //! What a reply's message says of each type.
 ghost use Rattle.std.specs.Prelude.{◌≡◌, map, Option, IfOk, IfSome};
 ghost use Rattle.std.specs.Option.{option_map};
+ghost use Rattle.sync_messages.specs.Laws.{HaveCanonicalExtras, HasCanonicalReply};
 ghost use Rattle.sync_model.specs.declared.message.Task.TheVariants.{Batch as Updating};
 ghost use Rattle.sync_model.specs.Receiving.{letter_of};
 ghost use Rattle.sync_model.specs.Servers.{mark_of};
@@ -76,6 +77,7 @@ fn letters_of_updates(
     asked: &[Asked],
     updates: &Updates,
 ) -> Result<Letters, NoMemory>
+    requires { HaveCanonicalExtras updates.now.entries }
     ensures read { IfOk result (λ letters. letters ≡ letters_of_updates asked.now updates.now) }
     ensures plain { IfOk result ArePlainLetters }
 {
@@ -95,7 +97,8 @@ pub(crate) fn letters_in(
     call: &Call<Content>,
     reply: &Reply,
 ) -> Result<Option<Letters>, NoMemory>
-    requires { IsPlainCall call.now }
+    requires call { IsPlainCall call.now }
+    requires reply { HasCanonicalReply reply.now }
     ensures read { IfOk result (λ letters. letters ≡ letters_read call.now reply.now) }
     ensures plain { IfOk result (λ letters. IfSome letters ArePlainLetters) }
 {

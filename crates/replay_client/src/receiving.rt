@@ -4,6 +4,7 @@ ghost use Rattle.std.specs.Option.{option_or};
 ghost use Rattle.run_setting.specs.Hashed.{hashed};
 ghost use Rattle.sync_model.specs.declared.message.Content.{Content as ContentOf};
 ghost use Rattle.sync_model.specs.declared.message.Reply.{Reply};
+ghost use Rattle.sync_messages.specs.Laws.{HasCanonicalReply};
 ghost use Rattle.sync_model.specs.Receiving.{is_other_store, answer_effect, post_effect, turn_effect};
 ghost use Rattle.replay_messages.specs.Forms.{IsPlainCall};
 ghost use Rattle.replay_messages.specs.Messages.{reply_told};
@@ -54,13 +55,14 @@ impl Client {
     /// The reply to the outstanding request, which is this one, reaches the client as a message. It takes time in
     /// what the message holds.
     ///
-    /// A message that tells no reply of a server to the request is read as far as it goes.
+    /// Its entities have canonical extras, as those have that are decoded. A message that tells no reply of a server to the request is read as far as it goes.
     pub fn answer(
         &mut self,
         request: &Request<Content>,
         message: &FromServer,
     ) -> Result<EventOutcome, NoMemory>
-        requires { IsPlainCall request.now.call }
+        requires plain { IsPlainCall request.now.call }
+        requires canonical { HasCanonicalReply message.now.reply }
         ensures happens { (reply : Reply ContentOf) → message.now ≡ reply_told request.now reply → IsReplyTo request.now.call reply.verdict
             → IfOk result (λ outcome. HappensAlone (answer_effect request.now reply self.old) outcome self.old self.new) }
         ensures plain { IfOk result IsPlainOutcome }

@@ -58,8 +58,9 @@ impl Client {
         let Kind::Preference = kind else {
             return Ok(());
         };
+        // The room comes first, since the processor notes what it gives.
+        self.held.reserve(room)?;
         let offers = self.preference.processor.offers(None, room)?;
-        self.held.reserve(offers.len())?;
         hold(&mut self.held, offers.into_vec());
         Ok(())
     }

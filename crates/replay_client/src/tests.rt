@@ -1,8 +1,10 @@
 // The story of a preference on two clients, its numbers worked out by hand from what a commit and a get-updates say and from
 // the conflict table.
-ghost use Rattle.std.specs.Prelude.{◌≡◌, IfOk};
+ghost use Rattle.std.specs.Prelude.{◌≡◌, [], IfOk};
 ghost use Rattle.client_tags.specs.declared.Kind.TheVariants.{Preference as preference_kind};
+ghost use Rattle.sync_messages.specs.Laws.{HasCanonicalReply};
 ghost use Rattle.sync_model.specs.Edits.{edit_kind};
+ghost use Rattle.sync_specifics.specs.Extras.{IsCanonicalEdit};
 ghost use Rattle.replay_client.specs.Happenings.{IsPlainOutcome};
 
 use crate::*;
@@ -16,21 +18,27 @@ use sync_specifics::Specifics;
 use sync_values::Preference;
 use wire_fields::{List, NoMemory, Octets};
 
-fn preference(alloc: Global, value: &[u8]) -> Result<Preference, NoMemory> {
+fn preference(alloc: Global, value: &[u8]) -> Result<Preference, NoMemory>
+    ensures { IfOk result (λ preference. preference.extra ≡ []) }
+{
     Ok(Preference {
         name: Octets::from_slice(alloc, b"a")?,
         value: Octets::from_slice(alloc, value)?,
+        extra: Octets::new(alloc),
     })
 }
 
 fn edit_to(alloc: Global, value: &[u8]) -> Result<Edit, NoMemory>
-    ensures { IfOk result (λ edit. edit_kind edit ≡ preference_kind) }
+    ensures kind { IfOk result (λ edit. edit_kind edit ≡ preference_kind) }
+    ensures canonical { IfOk result IsCanonicalEdit }
 {
     Ok(Edit::SetPreference(preference(alloc, value)?))
 }
 
 // A reply that stores the one entry of a commit as the write of this version.
-fn stored(alloc: Global, version: i64) -> Result<FromServer, NoMemory> {
+fn stored(alloc: Global, version: i64) -> Result<FromServer, NoMemory>
+    ensures { IfOk result (λ message. HasCanonicalReply message.reply) }
+{
     let mut answers = List::new(alloc);
     answers.push(EntryAnswer {
         outcome: Outcome::Success,
@@ -44,7 +52,10 @@ fn stored(alloc: Global, version: i64) -> Result<FromServer, NoMemory> {
 }
 
 // A reply that tells one write of the preference, and that it is the last one.
-fn told(alloc: Global, version: i64, mark: u64, value: &[u8]) -> Result<FromServer, NoMemory> {
+#[tactic(auto, using(loopback_server::proofs::NoExtra::no_extra))]
+fn told(alloc: Global, version: i64, mark: u64, value: &[u8]) -> Result<FromServer, NoMemory>
+    ensures { IfOk result (λ message. HasCanonicalReply message.reply) }
+{
     let mut entries = List::new(alloc);
     entries.push(Entity {
         id: Octets::new(alloc),
@@ -81,7 +92,8 @@ fn edited(
 
 // A message reaches the client as the reply to what this event requested.
 fn answered(client: &mut Client, made: &EventOutcome, message: &FromServer) -> bool
-    requires { IsPlainOutcome made.now }
+    requires made { IsPlainOutcome made.now }
+    requires canonical { HasCanonicalReply message.now.reply }
 {
     match made {
         EventOutcome::Requested { request, .. } => client.answer(request, message).is_ok(),
@@ -90,14 +102,18 @@ fn answered(client: &mut Client, made: &EventOutcome, message: &FromServer) -> b
 }
 
 // The client commits what is due, and this is the reply.
-fn commits(client: &mut Client, message: &FromServer) -> Result<bool, NoMemory> {
+fn commits(client: &mut Client, message: &FromServer) -> Result<bool, NoMemory>
+    requires { HasCanonicalReply message.now.reply }
+{
     client.gather(Kind::Preference)?;
     let made = client.offer(1, 5)?;
     Ok(answered(client, &made, message))
 }
 
 // The client asks for updates, and this is the reply.
-fn asks(client: &mut Client, message: &FromServer) -> Result<bool, NoMemory> {
+fn asks(client: &mut Client, message: &FromServer) -> Result<bool, NoMemory>
+    requires { HasCanonicalReply message.now.reply }
+{
     let made = client.ask(1, 6)?;
     Ok(answered(client, &made, message))
 }

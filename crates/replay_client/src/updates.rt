@@ -2,7 +2,9 @@
 ghost use Rattle.std.specs.Prelude.{◌≡◌, length, option_to_list, IfOk, IfSome};
 ghost use Rattle.std.specs.List.{AllByRecursion};
 ghost use Rattle.client_tags.specs.Hashes.{IsHash};
-ghost use Rattle.replay_messages.specs.Forms.{IsPlain};
+ghost use Rattle.sync_messages.specs.Laws.{HaveCanonicalExtras};
+ghost use Rattle.sync_specifics.specs.Extras.{HasCanonicalExtra, HasCanonicalExtraIfSome};
+ghost use Rattle.replay_messages.specs.Forms.{IsPlain, IsPlainValue};
 ghost use Rattle.replay_client.specs.Mail.{IsPlainUpdate};
 ghost use Rattle.replay_client.specs.Readings.{ack_read, acks_read, value_read, update_read, updates_read};
 
@@ -62,7 +64,9 @@ pub(crate) fn acks_of(
 
 // The value of a preference's entity that nothing seals, if it is one.
 fn value_of(deleted: bool, specifics: &Specifics) -> Result<Option<Value>, NoMemory>
-    ensures { IfOk result (λ value. value ≡ value_read deleted specifics.now) }
+    requires { HasCanonicalExtra specifics.now }
+    ensures read { IfOk result (λ value. value ≡ value_read deleted specifics.now) }
+    ensures plain { IfOk result (λ value. IfSome value IsPlainValue) }
 {
     match specifics {
         Specifics::EmptyOf(Kind::Preference) => Ok(Some(Value::Absent)),
@@ -81,6 +85,7 @@ fn hash_octets(alloc: Global, bytes: &[u8; 20]) -> Result<Octets, NoMemory>
 
 // The update that an entity says, if it is of a preference that nothing seals.
 fn update_of(alloc: Global, entity: &Entity) -> Result<Option<Update>, NoMemory>
+    requires { HasCanonicalExtraIfSome entity.now.specifics }
     ensures read { IfOk result (λ update. option_to_list update ≡ update_read entity.now) }
     ensures plain { IfOk result (λ update. IfSome update IsPlainUpdate) }
 {
@@ -105,6 +110,7 @@ fn update_of(alloc: Global, entity: &Entity) -> Result<Option<Update>, NoMemory>
 /// The updates that some entities say.
 #[tactic(auto, unfolding(crate::specs::Readings::updates_read))]
 pub(crate) fn updates_of(alloc: Global, mut entities: &[Entity]) -> Result<List<Update>, NoMemory>
+    requires { HaveCanonicalExtras entities.now }
     ensures read { IfOk result (λ updates. updates ≡ updates_read entities.now) }
     ensures plain { IfOk result (AllByRecursion IsPlainUpdate) }
 {

@@ -11,3 +11,4 @@ pub mod Served
 pub mod StepLemmas
 pub mod Stored
 pub mod WorldLemmas
+mod LawfulSteps

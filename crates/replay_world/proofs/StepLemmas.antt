@@ -15,6 +15,7 @@ use Rattle.sync_model.specs.declared.message.Content.{Content}
 use Rattle.sync_model.specs.declared.message.Entry.{Entry}
 use Rattle.sync_model.specs.Changes.{change_effect}
 use Rattle.sync_model.specs.Clients.{Client, Effect}
+use Rattle.sync_specifics.specs.Extras.{IsCanonicalEdit}
 use Rattle.sync_model.specs.Edits.{edit_kind}
 use Rattle.sync_model.specs.Receiving.{turn_effect, post_effect}
 use Rattle.sync_model.specs.Sending.{gather_effect, ask_effect, offer_effect}
@@ -158,7 +159,7 @@ answer_steps event earlier history before clients settled happened number are is
 }
 
 -- of what an event that can be stepped is
-pub number_of_edit : (clients : ℕ) (event : Event) (number : ℕ) (edit : Change) → event ≡ Edit number edit → CanStep clients event → IsNumber clients number × (edit_kind edit ≡ Preference)
+pub number_of_edit : (clients : ℕ) (event : Event) (number : ℕ) (edit : Change) → event ≡ Edit number edit → CanStep clients event → IsNumber clients number × (edit_kind edit ≡ Preference) × IsCanonicalEdit edit
 number_of_edit clients event number edit is can = subst (CanStep clients) is can
 
 pub number_of_turn : (clients : ℕ) (event : Event) (number : ℕ) (kind : Kind) → event ≡ Turn number kind → CanStep clients event → IsNumber clients number

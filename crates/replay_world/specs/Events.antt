@@ -1,6 +1,7 @@
 -- The events that a world of this stage can step.
 use Rattle.std.specs.Prelude.{◌≡◌, ℕ, ◌≤◌, IsTrue, length}
 use Rattle.client_tags.specs.declared.Kind.TheVariants.{Preference}
+use Rattle.sync_specifics.specs.Extras.{IsCanonicalEdit}
 use Rattle.sync_model.specs.declared.event.Event.{Event}
 use Rattle.sync_model.specs.declared.event.Event.TheVariants.{Edit, Cut, Turn, Gather, Post, Ask, Offer, Lose, Crash, Deliver, Answer, SetPass, GivePass}
 use Rattle.sync_model.specs.Edits.{edit_kind}
@@ -12,10 +13,10 @@ pub record IsNumber (clients number : ℕ) : Type 0 where
   pub from_one : 1 ≤ number
   pub within : number ≤ clients
 
--- An event of one of so many clients, and of a preference where it is an edit. Nothing is cut short or lost, and there are
--- no passphrases.
+-- An event of one of so many clients, and of a preference with a canonical extra where it is an edit. Nothing is cut short or
+-- lost, and there are no passphrases.
 abbrev pub CanStep : ℕ → Event → Type 0
-CanStep clients (Edit client edit) = IsNumber clients client × (edit_kind edit ≡ Preference)
+CanStep clients (Edit client edit) = IsNumber clients client × (edit_kind edit ≡ Preference) × IsCanonicalEdit edit
 CanStep clients (Turn client kind) = IsNumber clients client
 CanStep clients (Gather client kind) = IsNumber clients client
 CanStep clients (Post client kind) = IsNumber clients client

@@ -1,6 +1,7 @@
 pub mod Asked
 pub mod Copies
 pub mod Events
+pub mod Lawful
 pub mod Outcomes
 pub mod Reports
 pub mod Servers

@@ -4,6 +4,7 @@ ghost use Rattle.client_tags.specs.declared.Kind.TheVariants.{Preference as pref
 ghost use Rattle.sync_model.specs.declared.event.EventOutcome.{EventOutcome as OutcomeOf};
 ghost use Rattle.sync_model.specs.declared.message.Content.{Content as ContentOf};
 ghost use Rattle.sync_model.specs.declared.message.Entry.{Entry as EntryOf};
+ghost use Rattle.sync_specifics.specs.Extras.{IsCanonicalEdit};
 ghost use Rattle.sync_model.specs.Changes.{change_effect};
 ghost use Rattle.sync_model.specs.Edits.{edit_kind};
 ghost use Rattle.sync_model.specs.Receiving.{turn_effect, post_effect};
@@ -50,6 +51,7 @@ pub(crate) fn edit(
 ) -> Result<Happened, NoMemory>
     requires number { IsNumber (length clients.old) number }
     requires preference { edit_kind edit.now ≡ preference_kind }
+    requires canonical { IsCanonicalEdit edit.now }
     ensures acts { IfOk result (Acts number (change_effect hashed number edit.now) clients.old clients.new settlements.old.items settlements.new.items) }
     ensures clients { OnErr result (clients.new ≡ clients.old) }
     ensures settlements { OnErr result (settlements.new.items ≡ settlements.old.items) }

@@ -4,6 +4,7 @@ ghost use Rattle.std.specs.List.{AllByRecursion};
 ghost use Rattle.sync_model.specs.History.{IsBased};
 ghost use Rattle.sync_model.specs.Servers.{history_served};
 ghost use Rattle.sync_model.specs.Worlds.{STORE_BIRTHDAY, is_invalid_entry};
+ghost use Rattle.sync_messages.specs.Laws.{HasCanonicalRequest};
 ghost use Rattle.sync_messages.specs.Spellings.{from_bytes};
 ghost use Rattle.loopback_server.specs.Messages.{reply_for, history_for};
 ghost use Rattle.replay_messages.specs.Forms.{IsPlain};
@@ -58,7 +59,8 @@ struct ToldReply {
 
 // Handles a message. Where the bytes of the reply find no memory, what was stored is taken back.
 fn handle(alloc: Global, server: &mut Server, message: &ToServer) -> Result<ToldReply, NoMemory>
-    requires { IsBased server.old.history }
+    requires based { IsBased server.old.history }
+    requires canonical { HasCanonicalRequest message.now.request }
     ensures reply { IfOk result (λ told. told.reply ≡ reply_for server.old.birthday server.old.history message.now) }
     ensures bytes { IfOk result (λ told. told.bytes ≡ from_bytes told.reply) }
     ensures history { OnOk result (server.new.history ≡ history_for server.old.birthday server.old.history message.now) }

@@ -47,6 +47,7 @@ fn set_a(alloc: Global, value: &[u8]) -> Result<Event, NoMemory>
         edit: Edit::SetPreference(Preference {
             name: Octets::from_slice(alloc, b"a")?,
             value: Octets::from_slice(alloc, value)?,
+            extra: Octets::new(alloc),
         }),
     })
 }

@@ -7,10 +7,12 @@ ghost use Rattle.sync_model.specs.declared.message.Entry.{Entry as EntryOf};
 ghost use Rattle.sync_model.specs.Clients.{new_client};
 ghost use Rattle.sync_model.specs.History.{IsBased};
 ghost use Rattle.sync_model.specs.Report.{is_void};
-ghost use Rattle.sync_model.specs.Worlds.{opening, stepped};
+ghost use Rattle.sync_model.specs.declared.event.Schedule.{Schedule as Plan};
+ghost use Rattle.sync_model.specs.Worlds.{opening, stepped, world_of};
 ghost use Rattle.run_setting.specs.Hashed.{hashed};
 ghost use Rattle.replay_messages.specs.Recorders.{HasRecorded};
 ghost use Rattle.replay_world.specs.Events.{CanStep, IsVoided};
+ghost use Rattle.replay_world.specs.Lawful.{with_event, IsLawfulWorld};
 ghost use Rattle.replay_world.specs.Outcomes.{outcome_of, sent};
 
 use crate::happened::Happened;
@@ -18,6 +20,7 @@ use crate::run_server::RunServer;
 use crate::step::happen;
 use replay_client::Client;
 use replay_messages::Record;
+use run_setting::hashed_is_a_setting;
 use std::alloc::Global;
 use std::marker::Model;
 use sync_model::{Event, Schedule, Settlement, every_write_is_based};
@@ -110,6 +113,8 @@ impl World {
     /// number of keys and what its values cost, a gather looks at each key of the client once, and a request, a
     /// delivery, an answer and a turn cost what their messages hold and, for each entry, the logarithm of the number of
     /// keys. After an `Err` nothing has happened.
+    ///
+    /// All laws of runs hold of the world of the events so far (`IsLawful` in `sync_model`).
     pub fn step(&mut self, event: &Event) -> Result<Stepped, NoMemory>
         requires known { CanStep (length self.old.clients) event.now }
         requires room { length self.old.outcomes < 2 ^ 32 - 1 }
@@ -118,9 +123,24 @@ impl World {
         ensures clients { OnOk result (length self.new.clients ≡ length self.old.clients) }
         ensures void { IfOk result (λ answer. (answer ≡ Stepped.Void) ↔ IsVoided self.new) }
         ensures versions { OnOk result (IsBased self.old.history → IsBased self.new.history) }
+        ensures lawful { OnOk result ((plan : Plan) → self.old ≡ world_of hashed plan → IsLawfulWorld (with_event plan event.now) self.new) }
         ensures err { OnErr result (self.new ≡ self.old) }
     {
         every_write_is_based();
+        hashed_is_a_setting();
+        self.advance(event)
+    }
+
+    // Steps one event.
+    fn advance(&mut self, event: &Event) -> Result<Stepped, NoMemory>
+        requires known { CanStep (length self.old.clients) event.now }
+        requires room { length self.old.outcomes < 2 ^ 32 - 1 }
+        ensures ok { OnOk result (self.new ≡ stepped hashed event.now self.old) }
+        ensures counted { OnOk result (length self.new.outcomes ≡ length self.old.outcomes + 1) }
+        ensures clients { OnOk result (length self.new.clients ≡ length self.old.clients) }
+        ensures void { IfOk result (λ answer. (answer ≡ Stepped.Void) ↔ IsVoided self.new) }
+        ensures err { OnErr result (self.new ≡ self.old) }
+    {
         self.happened.reserve(1)?;
         let happened = happen(
             self.alloc,

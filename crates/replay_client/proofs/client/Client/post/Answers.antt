@@ -3,7 +3,17 @@ use Rattle.client_tags.specs.declared.Kind.TheVariants.{Nigori, Preference, Pass
 use Rattle.replay_client.specs.Clients.{client_of}
 use Rattle.replay_client.proofs.Effects.{if_ok_weaker}
 use Rattle.replay_client.proofs.MailLemmas.{idle_opens, plain_opens, post_happens}
+use Rattle.replay_client.proofs.PlainSides.{post_stays_plain}
 use Rattle.replay_client.proofs.client.Client.post.Goals as goal
+
+pub invariant_of-self-in-Preference : goal.invariant_of-self-in-Preference
+invariant_of-self-in-Preference c = record {
+  nigori = c.self.invariant.nigori;
+  password = c.self.invariant.password;
+  preference = post_stays_plain c.post-in-Preference.result c.self.inside.preference c.post-in-Preference.new.self c.self.invariant.preference
+      c.post-in-Preference.ensures.posted c.post-in-Preference.ensures.err;
+  held = c.self.invariant.held;
+}
 
 pub returns-in-Nigori-clause-happens : goal.returns-in-Nigori-clause-happens
 returns-in-Nigori-clause-happens c =
@@ -15,7 +25,7 @@ pub returns-in-Preference-clause-happens : goal.returns-in-Preference-clause-hap
 returns-in-Preference-clause-happens c =
     let side = c.self.inside.preference in
     rw (← c.self.view_is, c.in-Preference.is) (if_ok_weaker c.post-in-Preference.result _ _ (λ outcome posted. post_happens (client_of c.self.inside) Preference side c.post-in-Preference.new.self side.letter outcome refl refl
-    (plain_opens side.letter c.self.invariant.letter) posted) c.post-in-Preference.ensures.posted)
+    (plain_opens side.letter c.self.invariant.preference.letter) posted) c.post-in-Preference.ensures.posted)
 
 pub returns-in-Password-clause-happens : goal.returns-in-Password-clause-happens
 returns-in-Password-clause-happens c =

@@ -3,6 +3,8 @@ use Rattle.client_tags.specs.declared.Kind.TheVariants.{Nigori, Preference, Pass
 use Rattle.replay_client.specs.Clients.{client_of}
 use Rattle.replay_client.proofs.Effects.{if_ok_weaker}
 use Rattle.replay_client.proofs.MailLemmas.{turn_happens, same_rule, stays_idle}
+use Rattle.replay_client.proofs.PlainSides.{turn_stays_plain}
+use Rattle.replay_client.proofs.PlainStates.{preferences_plain}
 use Rattle.replay_client.proofs.client.Client.turn.Goals as goal
 
 pub invariant_of-self : goal.invariant_of-self
@@ -10,8 +12,16 @@ invariant_of-self c = record {
   nigori = stays_idle c.turn.result _ c.args.number Nigori c.self.inside.nigori c.turn.new.self c.args.settlements.now.items c.turn.new.settlements.items
       c.self.invariant.nigori c.turn.ensures.turned c.turn.ensures.err;
   password = c.self.invariant.password;
-  kind = c.self.invariant.kind;
-  letter = c.self.invariant.letter;
+  preference = c.self.invariant.preference;
+  held = c.self.invariant.held;
+}
+
+pub invariant_of-self-in-Preference : goal.invariant_of-self-in-Preference
+invariant_of-self-in-Preference c = record {
+  nigori = c.self.invariant.nigori;
+  password = c.self.invariant.password;
+  preference = turn_stays_plain c.turn-in-Preference.result _ preferences_plain c.args.number Preference c.self.inside.preference c.turn-in-Preference.new.self
+      c.args.settlements.now.items c.turn-in-Preference.new.settlements.items c.self.invariant.preference c.turn-in-Preference.ensures.turned c.turn-in-Preference.ensures.err;
   held = c.self.invariant.held;
 }
 
@@ -20,8 +30,7 @@ invariant_of-self-in-Password c = record {
   nigori = c.self.invariant.nigori;
   password = stays_idle c.turn-in-Password.result _ c.args.number Password c.self.inside.password c.turn-in-Password.new.self c.args.settlements.now.items c.turn-in-Password.new.settlements.items
       c.self.invariant.password c.turn-in-Password.ensures.turned c.turn-in-Password.ensures.err;
-  kind = c.self.invariant.kind;
-  letter = c.self.invariant.letter;
+  preference = c.self.invariant.preference;
   held = c.self.invariant.held;
 }
 

@@ -14,11 +14,11 @@ use Rattle.replay_world.proofs.Served.{stored_based, reply_is, stored_is, still_
 use Rattle.replay_world.proofs.run_server.RunServer.deliver.Goals as goal
 
 pub handle-requires : goal.handle-requires
-handle-requires c = stored_based c.self.inside c.self.invariant
+handle-requires c = record { based = stored_based c.self.inside c.self.invariant; canonical = c.in_ok-message.ensures.canonical }
 
 pub invariant_of-self-2 : goal.invariant_of-self-2
 invariant_of-self-2 c =
-    let message = c.in_ok-message.ensures (request_told c.args.client c.args.request.now) c.requires.sayable c.requires.is_told in
+    let message = c.in_ok-message.ensures.read (request_told c.args.client c.args.request.now) c.requires.sayable c.requires.is_told in
     still_server c.self.inside _ c.args.request.now c.self.invariant c.requires.plain c.server_agrees.ensures.plain_histories
     (c.handle.ensures.birthday ∙ c.self.invariant.birthday)
     (kept_writes c.args.client c.self.inside c.args.request.now c.in_ok-message.message c.in_ok-told.told.reply c.keep_stored.new.writes.items c.server_agrees.ensures.replies c.self.invariant c.requires.plain message
@@ -28,14 +28,14 @@ invariant_of-self-2 c =
 
 pub returns-clause-reply : goal.returns-clause-reply
 returns-clause-reply c =
-    let message = c.in_ok-message.ensures (request_told c.args.client c.args.request.now) c.requires.sayable c.requires.is_told in
+    let message = c.in_ok-message.ensures.read (request_told c.args.client c.args.request.now) c.requires.sayable c.requires.is_told in
     subst (λ (history : List (Entry Content)). IsReply c.args.request.now (served_reply history c.args.request.now) c.in_ok-told.told.bytes) c.self.view_is
     (told_reply c.args.client c.self.inside c.args.request.now c.in_ok-message.message c.in_ok-told.told.reply c.in_ok-told.told.bytes c.server_agrees.ensures.replies c.server_agrees.ensures.sayable c.self.invariant
     c.requires.plain (omega (arith, length-reverse c.self.inside.writes.items, c.self.inside.writes.ok, c.self.inside.writes.small)) message c.in_ok-told.ensures.reply c.in_ok-told.ensures.bytes)
 
 pub returns-clause-history : goal.returns-clause-history
 returns-clause-history c =
-    let message = c.in_ok-message.ensures (request_told c.args.client c.args.request.now) c.requires.sayable c.requires.is_told in
+    let message = c.in_ok-message.ensures.read (request_told c.args.client c.args.request.now) c.requires.sayable c.requires.is_told in
     kept_writes c.args.client c.self.inside c.args.request.now c.in_ok-message.message c.in_ok-told.told.reply c.keep_stored.new.writes.items c.server_agrees.ensures.replies c.self.invariant c.requires.plain message
     c.in_ok-told.ensures.reply (c.keep_stored.ensures ∙ (λ i. c.in_ok-reserve.ensures.items i ++ stored_by (c.in_ok-copies.ensures i) (c.answers_of.ensures i)))
     ∙ ap (λ (history : List (Entry Content)). history_served is_invalid_entry STORE_BIRTHDAY history c.args.request.now) c.self.view_is
