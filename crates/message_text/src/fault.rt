@@ -1,17 +1,20 @@
 //! What is wrong with bytes that are no message.
-ghost use Rattle.std.specs.Prelude.{◌≡◌, ◌++◌, OnOk};
+ghost use Rattle.std.specs.Prelude.{◌≡◌, ◌++◌, OnOk, OnErr};
 ghost use Rattle.std.specs.Fmt.{decimal};
 ghost use Rattle.message_text.specs.Faults.{wire_reason_text, reason_text, fault_text};
+ghost use Rattle.text_lines.specs.Continued.{Continues};
 
 use sync_messages::{MessageFault, MessageReason};
 use text_lines::{Piece, write_pieces, write_text};
 use wire_fields::NoMemory;
 use wire_format::WireReason;
 
-/// Where bytes are no message, and why, at the end of a text.
-#[tactic(auto, unfolding(crate::specs::Faults::fault_text))]
+/// Where bytes are no message, and why, at the end of a text. After want of memory the text still begins with what it
+/// was; a part of what was to be written may follow.
+#[tactic(auto, using(text_lines::proofs::Continuing::continues_after), unfolding(crate::specs::Faults::fault_text))]
 pub fn write_fault(out: &mut Vec<u8>, fault: MessageFault) -> Result<(), NoMemory>
-    ensures { OnOk result (out.new.items ≡ out.old.items ++ fault_text fault) }
+    ensures ok { OnOk result (out.new.items ≡ out.old.items ++ fault_text fault) }
+    ensures err { OnErr result (Continues out.old.items out.new.items) }
 {
     write_pieces(
         out,
@@ -26,7 +29,8 @@ pub fn write_fault(out: &mut Vec<u8>, fault: MessageFault) -> Result<(), NoMemor
 
 #[tactic(auto, unfolding(crate::specs::Faults::reason_text))]
 fn write_reason(out: &mut Vec<u8>, reason: MessageReason) -> Result<(), NoMemory>
-    ensures { OnOk result (out.new.items ≡ out.old.items ++ reason_text reason) }
+    ensures ok { OnOk result (out.new.items ≡ out.old.items ++ reason_text reason) }
+    ensures err { OnErr result (Continues out.old.items out.new.items) }
 {
     match reason {
         MessageReason::Wire(reason) => write_text(out, wire_reason(reason)),
@@ -39,7 +43,8 @@ fn write_reason(out: &mut Vec<u8>, reason: MessageReason) -> Result<(), NoMemory
 }
 
 fn write_numbered(out: &mut Vec<u8>, words: &[u8], number: u64) -> Result<(), NoMemory>
-    ensures { OnOk result (out.new.items ≡ out.old.items ++ words.now ++ decimal number) }
+    ensures ok { OnOk result (out.new.items ≡ out.old.items ++ words.now ++ decimal number) }
+    ensures err { OnErr result (Continues out.old.items out.new.items) }
 {
     write_pieces(out, &[Piece::Text(words), Piece::Number(number)])
 }

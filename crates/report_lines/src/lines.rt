@@ -209,6 +209,7 @@ fn row_name(row: Row) -> &'static [u8]
     ensures { result.now ≡ row_word row }
 {
     match row {
+        Row::C0 => b"C0",
         Row::C1 => b"C1",
         Row::C2 => b"C2",
         Row::C3 => b"C3",

@@ -41,22 +41,29 @@ fn lines_of_fates(rt: HostRuntime) -> Result<(), Fail> {
     let (version, row) = (1, Row::C6);
     let taken = Fate::Taken { version, row };
     write_fate_line(&mut out, 2, Kind::Nigori, 1, Some(taken))?;
+    let echoed = Fate::Taken {
+        version,
+        row: Row::C0,
+    };
+    write_fate_line(&mut out, 1, Kind::Preference, 1, Some(echoed))?;
     let merged = Fate::Merged { version, row };
     write_fate_line(&mut out, 2, Kind::Preference, 1, Some(merged))?;
     assert_eq!(rt;
         out.as_slice(),
         b"fate 1 preference 1 committed 1\nfate 1 preference 1 stands\n\
           fate 1 preference 3 followed 4\nfate 1 preference 4 matched 2\n\
-          fate 2 nigori 1 taken 1 C6\nfate 2 preference 1 merged 1 C6\n"
+          fate 2 nigori 1 taken 1 C6\nfate 1 preference 1 taken 1 C0\n\
+          fate 2 preference 1 merged 1 C6\n"
             .as_slice()
     );
     Ok(())
 }
 
-fn preference(alloc: Global) -> Result<Value, NoMemory> {
+fn preference(alloc: Global, extra: &[u8]) -> Result<Value, NoMemory> {
     Ok(Value::Preference(Preference {
         name: Octets::from_slice(alloc, b"a")?,
         value: Octets::from_slice(alloc, b"1")?,
+        extra: Octets::from_slice(alloc, extra)?,
     }))
 }
 
@@ -71,7 +78,7 @@ const HASH: TagHash = TagHash {
 #[test]
 fn lines_of_values(rt: HostRuntime) -> Result<(), Fail> {
     let content = Content {
-        value: preference(rt.alloc())?,
+        value: preference(rt.alloc(), b"")?,
         number: 1,
         lock: None,
         draw: None,
@@ -84,6 +91,18 @@ fn lines_of_values(rt: HostRuntime) -> Result<(), Fail> {
         b"entity 1 preference Kx2jO7xVq8+3lJZeivRPONho7EY= plain a 1\n\
           value 1 preference Kx2jO7xVq8+3lJZeivRPONho7EY= known 1 a 1\n"
             .as_slice()
+    );
+    Ok(())
+}
+
+#[test]
+fn the_fields_of_a_newer_client_end_a_value(rt: HostRuntime) -> Result<(), Fail> {
+    let value = preference(rt.alloc(), b"\x18\x07")?;
+    let mut out = Vec::new(rt.alloc());
+    write_value_line(&mut out, 2, Kind::Preference, &HASH, 0, &value)?;
+    assert_eq!(rt;
+        out.as_slice(),
+        b"value 2 preference Kx2jO7xVq8+3lJZeivRPONho7EY= known 0 a 1 + %18%07\n".as_slice()
     );
     Ok(())
 }
@@ -114,6 +133,7 @@ fn login(alloc: Global) -> Result<Value, NoMemory> {
         realm: Octets::from_slice(alloc, b"a realm")?,
         secret: Octets::from_slice(alloc, b"-")?,
         created: -12,
+        extra: Octets::new(alloc),
     }))
 }
 

@@ -1,6 +1,6 @@
 ghost use Rattle.std.specs.Prelude.{◌≡◌, [], ◌++◌, OnOk, OnErr};
 ghost use Rattle.run_setting.specs.Hashed.{hashed};
-ghost use Rattle.sync_model.specs.Report.{preference_text, password_text, pass_number, key_text, key_numbers, nigori_text, value_text, lock_text};
+ghost use Rattle.sync_model.specs.Report.{extra_text, preference_text, password_text, pass_number, key_text, key_numbers, nigori_text, value_text, lock_text};
 ghost use Rattle.text_lines.specs.Continued.{Continues};
 
 use sync_model::Value;
@@ -46,6 +46,18 @@ fn write_password(out: &mut Vec<u8>, password: &Password) -> Result<(), NoMemory
     )
 }
 
+/// What ends a value that a newer client wrote more fields of: those fields as a word, if there are any.
+#[tactic(auto, unfolding(sync_model::specs::Report::extra_text))]
+fn write_extra(out: &mut Vec<u8>, extra: &[u8]) -> Result<(), NoMemory>
+    ensures ok { OnOk result (out.new.items ≡ out.old.items ++ extra_text extra.now) }
+    ensures err { OnErr result (Continues out.old.items out.new.items) }
+{
+    if extra.is_empty() {
+        return Ok(());
+    }
+    write_pieces(out, &[Piece::Text(b" + "), Piece::Word(extra)])
+}
+
 // The number of a key. No passphrase is known, so it is 0.
 #[tactic(auto, unfolding(sync_model::specs::Report::key_text))]
 fn write_key(out: &mut Vec<u8>, key: &NigoriKey) -> Result<(), NoMemory>
@@ -84,16 +96,23 @@ fn write_nigori(out: &mut Vec<u8>, nigori: &NigoriValue) -> Result<(), NoMemory>
 }
 
 /// A value as the words of a line, in time linear in its texts: `absent`, a preference's name and value,
-/// the seven words of a login, or the numbers of a profile's keys, which are 0.
-#[tactic(auto, unfolding(sync_model::specs::Report::value_text, run_setting::specs::Hashed::hashed))]
+/// the seven words of a login, or the numbers of a profile's keys, which are 0. A `+` and a word end it where a newer
+/// client wrote more fields of it.
+#[tactic(auto, using(text_lines::proofs::Continuing::continues_after), unfolding(sync_model::specs::Report::value_text, run_setting::specs::Hashed::hashed))]
 pub fn write_value(out: &mut Vec<u8>, value: &Value) -> Result<(), NoMemory>
     ensures ok { OnOk result (out.new.items ≡ out.old.items ++ value_text hashed (pass_number hashed []) value.now) }
     ensures err { OnErr result (Continues out.old.items out.new.items) }
 {
     match value {
         Value::Absent => write_text(out, b"absent"),
-        Value::Preference(preference) => write_preference(out, preference),
-        Value::Password(password) => write_password(out, password),
+        Value::Preference(preference) => {
+            write_preference(out, preference)?;
+            write_extra(out, preference.extra.as_slice())
+        }
+        Value::Password(password) => {
+            write_password(out, password)?;
+            write_extra(out, password.extra.as_slice())
+        }
         Value::Nigori(nigori) => write_nigori(out, nigori),
     }
 }

@@ -9,7 +9,7 @@ use Rattle.schedule_text.specs.declared.fault.LineReason.{LineReason}
 use Rattle.schedule_text.specs.declared.fault.LineReason.TheVariants.{End, Form, Number, Range, Word, Many, Later}
 use Rattle.schedule_text.specs.declared.fault.LineFault.{LineFault}
 use Rattle.schedule_text.specs.declared.fault.LineFault.TheVariants.{Bad, NoMemory}
-use Rattle.schedule_text.specs.Grammar.{Slot, Fixed, Between, AnyText, after_slot, after_word, fits, form_of}
+use Rattle.schedule_text.specs.Grammar.{Slot, Fixed, Between, AnyText, AnyExtra, after_slot, after_word, fits, form_of}
 use Rattle.schedule_text.specs.Faults.{HasFault, HasFaultyWord, IsDecimal, IsFault, IsFaulty, IsRight, IsTextWord}
 use Rattle.schedule_text.specs.Reading.{BeginsOther, IsFaultIn, IsFormFault, IsSlotFault}
 use Rattle.schedule_text.specs.Refusals.{words_of}
@@ -23,6 +23,7 @@ tail_after word [] = []
 tail_after word (Fixed fixed ∷ form) = cond (bytes_eq fixed word) (form ∷ []) []
 tail_after word (Between low high ∷ form) = []
 tail_after word (AnyText ∷ form) = []
+tail_after word (AnyExtra kind ∷ form) = []
 
 abbrev pub tails : List ℕ → List (List Slot) → List (List Slot)
 tails word forms = flat_map (tail_after word) forms
@@ -34,6 +35,7 @@ all_fixed ((Fixed fixed ∷ form) ∷ forms) = all_fixed forms
 all_fixed ([] ∷ forms) = false
 all_fixed ((Between low high ∷ form) ∷ forms) = false
 all_fixed ((AnyText ∷ form) ∷ forms) = false
+all_fixed ((AnyExtra kind ∷ form) ∷ forms) = false
 
 abbrev pub after_fixed : List ℕ → Option (List Slot) → Option (List Slot)
 after_fixed word found = option_map (λ form. Fixed word ∷ form) found
@@ -53,6 +55,7 @@ found_after word words ((Fixed w ∷ form) ∷ forms) fixed =
 found_after word words ([] ∷ forms) fixed = absurd cc
 found_after word words ((Between low high ∷ form) ∷ forms) fixed = absurd cc
 found_after word words ((AnyText ∷ form) ∷ forms) fixed = absurd cc
+found_after word words ((AnyExtra kind ∷ form) ∷ forms) fixed = absurd cc
 
 -- ---- faults that a form found tells
 
@@ -70,6 +73,7 @@ unfolding word_reason
 faulty_reason (Between low high) word Number is = refl
 faulty_reason (Between low high) word Range is = refl
 faulty_reason AnyText word Word is = refl
+faulty_reason (AnyExtra kind) word Word is = refl
 faulty_reason slot word reason is = absurd is
 
 fault_reason : (form : List Slot) (words : List (List ℕ)) (reason : LineReason) → HasFault form words reason → word_reason reason ≡ true
@@ -161,6 +165,7 @@ fits_length (word ∷ words) (Fixed fixed ∷ form) is = ap suc (fits_length wor
     both false b e = absurd cc
 fits_length (word ∷ words) (Between low high ∷ form) is = ap suc (fits_length words form is)
 fits_length (word ∷ words) (AnyText ∷ form) is = ap suc (fits_length words form is)
+fits_length (word ∷ words) (AnyExtra kind ∷ form) is = ap suc (fits_length words form is)
 fits_length [] (slot ∷ form) is = absurd cc
 fits_length (word ∷ words) [] is = absurd cc
 
@@ -184,6 +189,7 @@ IsOther line (Fixed word ∷ slot ∷ form) = BeginsOther line word
 IsOther line (Fixed word ∷ []) = ⊥
 IsOther line (Between low high ∷ form) = ⊥
 IsOther line (AnyText ∷ form) = ⊥
+IsOther line (AnyExtra kind ∷ form) = ⊥
 IsOther line [] = ⊥
 
 words_begin_other : (words : List (List ℕ)) (word : List ℕ) (slot : Slot) (form : List Slot) → BeginsOther (join_with_byte 32 words) word → fits words (Fixed word ∷ slot ∷ form) ≡ false
@@ -208,6 +214,7 @@ not_found line (Fixed word ∷ slot ∷ form) other = begins_other line word slo
 not_found line (Fixed word ∷ []) other = absurd other
 not_found line (Between low high ∷ form) other = absurd other
 not_found line (AnyText ∷ form) other = absurd other
+not_found line (AnyExtra kind ∷ form) other = absurd other
 not_found line [] other = absurd other
 
 pub passed_at : (fit : Bool) (form : List Slot) (rest : Option (List Slot)) → fit ≡ false → cond fit (Some form) rest ≡ rest
@@ -230,15 +237,6 @@ pub one_text_fault : (word : List ℕ) (fault : LineFault) → IsSlotFault AnyTe
 one_text_fault word (Bad reason) fault = fault_of_form ((AnyText ∷ []) ∷ []) (AnyText ∷ []) (word ∷ []) reason refl (inl fault)
 one_text_fault word NoMemory fault = tt
 
--- the faults of two words
-pub first_fault : (slot next : Slot) (word other : List ℕ) (fault : LineFault) → IsSlotFault slot word fault → IsFormFault (slot ∷ next ∷ []) (word ∷ other ∷ []) fault
-first_fault slot next word other (Bad reason) fault = inl fault
-first_fault slot next word other NoMemory fault = tt
-
-pub second_fault : (slot next : Slot) (word other : List ℕ) (fault : LineFault) → IsRight slot word → IsSlotFault next other fault → IsFormFault (slot ∷ next ∷ []) (word ∷ other ∷ []) fault
-second_fault slot next word other (Bad reason) right fault = inr (right, inl fault)
-second_fault slot next word other NoMemory right fault = tt
-
 -- a fault of words that are those that fit the only form
 pub words_fault : (words others : List (List ℕ)) (form : List Slot) (fault : LineFault) → words ≡ others → form_of others (form ∷ []) ≡ Some form → IsFormFault form others fault → IsFaultIn (form ∷ []) words fault
 words_fault words others form fault is fit at = subst (λ (ws : List (List ℕ)). IsFaultIn (form ∷ []) ws fault) (sym is) (one_form_fault others form fault fit at)
@@ -258,6 +256,7 @@ long_misses word (Fixed fixed) other form = miss (bytes_eq fixed word)
     miss false = refl
 long_misses word (Between low high) other form = refl
 long_misses word AnyText other form = refl
+long_misses word (AnyExtra kind) other form = refl
 
 -- one word fits no form that has more places
 pub one_misses : (word : List ℕ) (forms : List (List Slot)) → all_long forms ≡ true → form_of (word ∷ []) forms ≡ None

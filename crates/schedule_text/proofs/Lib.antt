@@ -13,4 +13,5 @@ pub mod OneLine
 pub mod RightLines
 pub mod OneCutting
 pub mod TheLaws
+pub mod CanonicalEdits
 pub mod Printed

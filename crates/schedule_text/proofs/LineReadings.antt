@@ -14,7 +14,7 @@ use Rattle.schedule_text.specs.Limits.{MAX_CLIENTS, MAX_SEED}
 use Rattle.schedule_text.specs.Lines.{line_words}
 use Rattle.schedule_text.specs.Places.{IsInPlace, HasRoom, is_built_line}
 use Rattle.schedule_text.specs.Spelling.{AreBytes, IsUpTo}
-use Rattle.schedule_text.specs.Grammar.{Slot, Fixed, Between, AnyText, change_forms, clients_form, delete_forms, event_forms, fits, form_of, forms_after, if_may, kept_forms, kind_forms, may_pass, may_seed, pass_form, seed_form, set_forms}
+use Rattle.schedule_text.specs.Grammar.{Slot, Fixed, Between, AnyText, change_forms, clients_form, delete_forms, event_forms, fits, form_of, forms_after, if_may, kept_forms, kind_forms, newer_forms, may_pass, may_seed, pass_form, seed_form, set_forms}
 use Rattle.schedule_text.specs.Faults.{IsFault, IsFaultAfter}
 use Rattle.schedule_text.specs.Reading.{BeginsOther, IsFaultIn, IsFaultThere, IsReading, IsSlotFault}
 use Rattle.schedule_text.specs.Refusals.{words_of}
@@ -60,19 +60,19 @@ pass_words line rest is = ap words_of is ∙ words_at_space (codes "pass") rest 
 -- ---- lines after others
 
 places_fixed : (seed pass : Bool) (clients passes : ℕ) → all_fixed (if_may seed seed_form ++ if_may pass pass_form ++ event_forms clients passes) ≡ true
-unfolding seed_form pass_form event_forms kept_forms change_forms set_forms delete_forms kind_forms
+unfolding seed_form pass_form event_forms kept_forms change_forms set_forms newer_forms delete_forms kind_forms
 places_fixed true true clients passes = refl
 places_fixed true false clients passes = refl
 places_fixed false true clients passes = refl
 places_fixed false false clients passes = refl
 
 seed_tails : (pass : Bool) (clients passes : ℕ) → (Between 1 MAX_SEED ∷ []) ∷ [] ≡ tails (codes "seed") (if_may true seed_form ++ if_may pass pass_form ++ event_forms clients passes)
-unfolding seed_form pass_form event_forms kept_forms change_forms set_forms delete_forms kind_forms
+unfolding seed_form pass_form event_forms kept_forms change_forms set_forms newer_forms delete_forms kind_forms
 seed_tails true clients passes = refl
 seed_tails false clients passes = refl
 
 pass_tails : (seed : Bool) (clients passes : ℕ) → (AnyText ∷ []) ∷ [] ≡ tails (codes "pass") (if_may seed seed_form ++ if_may true pass_form ++ event_forms clients passes)
-unfolding seed_form pass_form event_forms kept_forms change_forms set_forms delete_forms kind_forms
+unfolding seed_form pass_form event_forms kept_forms change_forms set_forms newer_forms delete_forms kind_forms
 pass_tails true clients passes = refl
 pass_tails false clients passes = refl
 

@@ -8,7 +8,7 @@ use Rattle.std.proofs.lemmas.List.{append-nil, append_cancel_left}
 use Rattle.client_tags.specs.declared.Kind.{Kind}
 use Rattle.client_tags.specs.declared.Kind.TheVariants.{Nigori, Preference, Password}
 use Rattle.sync_values.specs.declared.edit.Edit.{Edit as Change}
-use Rattle.sync_values.specs.declared.edit.Edit.TheVariants.{SetPreference, DeletePreference, SetPassword, DeletePassword, SetNigori}
+use Rattle.sync_values.specs.declared.edit.Edit.TheVariants.{SetPreference, NewerPreference, DeletePreference, SetPassword, NewerPassword, DeletePassword, SetNigori}
 use Rattle.sync_model.specs.declared.event.Event.{Event as Step}
 use Rattle.sync_model.specs.declared.event.Event.TheVariants.{Edit, Cut, Turn, Gather, Post, Ask, Offer, Lose, Crash, Deliver, Answer, SetPass, GivePass}
 use Rattle.sync_model.specs.declared.event.Schedule.{Schedule}
@@ -69,8 +69,10 @@ kept_visible false = visible_by_test (codes "lost") refl
 change_visible : (edit : Change) → IsChange edit → AllVisible (change_words edit)
 unfolding change_words
 change_visible (SetPreference p) is = (visible_by_test (codes "set") refl, (visible_by_test (codes "preference") refl, (word_is_visible p.name, (word_is_visible p.value, tt))))
+change_visible (NewerPreference p) is = (visible_by_test (codes "newer") refl, (visible_by_test (codes "preference") refl, (word_is_visible p.name, (word_is_visible p.value, (word_is_visible p.extra, tt)))))
 change_visible (DeletePreference name) is = (visible_by_test (codes "del") refl, (visible_by_test (codes "preference") refl, (word_is_visible name, tt)))
-change_visible (SetPassword p) is = (visible_by_test (codes "set") refl, (visible_by_test (codes "password") refl, (word_is_visible p.origin, (word_is_visible p.user_element, (word_is_visible p.user_value, (word_is_visible p.pass_element, (word_is_visible p.realm, (word_is_visible p.secret, (date_visible p.created is.6, tt)))))))))
+change_visible (SetPassword p) is = (visible_by_test (codes "set") refl, (visible_by_test (codes "password") refl, (word_is_visible p.origin, (word_is_visible p.user_element, (word_is_visible p.user_value, (word_is_visible p.pass_element, (word_is_visible p.realm, (word_is_visible p.secret, (date_visible p.created is.0.6, tt)))))))))
+change_visible (NewerPassword p) is = (visible_by_test (codes "newer") refl, (visible_by_test (codes "password") refl, (word_is_visible p.origin, (word_is_visible p.user_element, (word_is_visible p.user_value, (word_is_visible p.pass_element, (word_is_visible p.realm, (word_is_visible p.secret, (date_visible p.created is.0.6, (word_is_visible p.extra, tt))))))))))
 change_visible (DeletePassword o e v p r) is = (visible_by_test (codes "del") refl, (visible_by_test (codes "password") refl, (word_is_visible o, (word_is_visible e, (word_is_visible v, (word_is_visible p, (word_is_visible r, tt)))))))
 change_visible (SetNigori keys) is = absurd is
 

@@ -1,5 +1,5 @@
 -- A line's words are right, and tell the line.
-use Rattle.std.proofs.Common.{◌≡◌, ◌≢◌, ◌⊎◌, inl, inr, ℕ, ℤ, pos, negsuc, ◌+◌, ◌*◌, ◌^◌, ◌<◌, ◌≤◌, Bool, true, false, cond, ◌==◌, List, [], ◌∷◌, ◌++◌, length, codes, get_or, drop, Option, Some, None, refl, sym, ap, subst, ◌∙◌, arith}
+use Rattle.std.proofs.Common.{◌≡◌, ◌≢◌, ◌⊎◌, inl, inr, ℕ, ℤ, pos, negsuc, ◌+◌, ◌*◌, ◌^◌, ◌<◌, ◌≤◌, Bool, true, false, cond, ◌==◌, List, [], ◌∷◌, ◌++◌, length, codes, get_or, take, drop, Option, Some, None, refl, sym, ap, subst, ◌∙◌, arith}
 use Rattle.std.specs.Prelude.{IsTrue}
 use Rattle.std.specs.Fmt.{decimal, signed_decimal}
 use Rattle.std.specs.List.{AllByRecursion}
@@ -8,7 +8,7 @@ use Rattle.std.proofs.lemmas.Fmt.{decimal_injective}
 use Rattle.client_tags.specs.declared.Kind.{Kind}
 use Rattle.client_tags.specs.declared.Kind.TheVariants.{Nigori, Preference, Password}
 use Rattle.sync_values.specs.declared.edit.Edit.{Edit as Change}
-use Rattle.sync_values.specs.declared.edit.Edit.TheVariants.{SetPreference, DeletePreference, SetPassword, DeletePassword, SetNigori}
+use Rattle.sync_values.specs.declared.edit.Edit.TheVariants.{SetPreference, NewerPreference, DeletePreference, SetPassword, NewerPassword, DeletePassword, SetNigori}
 use Rattle.sync_values.specs.declared.value.Preference.{Preference as Pref}
 use Rattle.sync_values.specs.declared.value.Password.{Password as Login}
 use Rattle.sync_model.specs.declared.event.Event.{Event as Step}
@@ -22,9 +22,9 @@ use Rattle.schedule_text.specs.declared.line.Line.TheVariants.{Clients, Seed, Pa
 use Rattle.schedule_text.specs.Faults.{HasFault, IsFault, IsFaultAfter, IsFaulty, IsRight, IsTextWord}
 use Rattle.schedule_text.specs.Grammar.{Slot, Fixed, Between, AnyText, change_forms, clients_form, delete_forms, event_forms, fits, form_of, forms_after, if_may, kept_forms, kind_forms, login_form, may_pass, may_seed, pass_form, seed_form, set_forms, site_form}
 use Rattle.schedule_text.specs.Limits.{MAX_CLIENTS, MAX_DATE, MAX_EVENTS, MAX_SEED}
-use Rattle.schedule_text.specs.Lines.{change_words, event_words, kept_word, line_words}
+use Rattle.schedule_text.specs.Lines.{change_words, event_words, kept_word, line_words, login_words}
 use Rattle.schedule_text.specs.Places.{HasRoom, IsInPlace, MayStand, is_built_line}
-use Rattle.schedule_text.specs.Spelling.{AreBytes, IsChange, IsDate, IsEvent, IsSchedule, IsUpTo}
+use Rattle.schedule_text.specs.Spelling.{AreBytes, IsChange, IsDate, IsEvent, IsLogin, IsSchedule, IsUpTo}
 use Rattle.schedule_text.proofs.Escapes.{texts_same}
 use Rattle.schedule_text.proofs.Forms.{fault_cases}
 use Rattle.schedule_text.proofs.Numerals.{decimal_is, decimal_value}
@@ -97,13 +97,15 @@ dates_same (pos one) (negsuc other) p q e = absurd q
 words_apart : (i : ℕ) (one other : List (List ℕ)) → one ≡ other → get_or one i [] ≡ get_or other i []
 words_apart i one other e = ap (λ (ws : List (List ℕ)). get_or ws i []) e
 
--- `s` or `d`, and the second letter of the type's name
+-- `s`, `n` or `d`, and the second letter of the type's name
 abbrev pub change_letters_of : List (List ℕ) → ℕ
 change_letters_of words = 256 * get_or (get_or words 0 []) 0 0 + get_or (get_or words 1 []) 1 0
 
 abbrev pub change_code : Change → ℕ
 change_code (SetPreference preference) = 29554
+change_code (NewerPreference preference) = 28274
 change_code (SetPassword password) = 29537
+change_code (NewerPassword password) = 28257
 change_code (DeletePreference name) = 25714
 change_code (DeletePassword origin user_element user_value pass_element realm) = 25697
 change_code (SetNigori keys) = 0
@@ -111,7 +113,9 @@ change_code (SetNigori keys) = 0
 change_code_is : (edit : Change) → IsChange edit → change_letters_of (change_words edit) ≡ change_code edit
 unfolding change_words
 change_code_is (SetPreference preference) is = refl
+change_code_is (NewerPreference preference) is = refl
 change_code_is (SetPassword password) is = refl
+change_code_is (NewerPassword password) is = refl
 change_code_is (DeletePreference name) is = refl
 change_code_is (DeletePassword origin user_element user_value pass_element realm) is = refl
 change_code_is (SetNigori keys) is = absurd is
@@ -119,22 +123,34 @@ change_code_is (SetNigori keys) is = absurd is
 change_letters_same : (one other : Change) → IsChange one → IsChange other → change_words one ≡ change_words other → change_code one ≡ change_code other
 change_letters_same one other fits right e = sym (change_code_is one fits) ∙ ap change_letters_of e ∙ change_code_is other right
 
+-- logins with the same words and the same unknown fields
+logins_same : (p q : Login) → IsLogin p → IsLogin q → p.extra ≡ q.extra → login_words p ≡ login_words q → p ≡ q
+logins_same p q fits right extra e =
+    let origin : p.origin ≡ q.origin = texts_same p.origin q.origin fits.0 right.0 (words_apart 0 _ _ e) in
+    let user_element : p.user_element ≡ q.user_element = texts_same p.user_element q.user_element fits.1 right.1 (words_apart 1 _ _ e) in
+    let user_value : p.user_value ≡ q.user_value = texts_same p.user_value q.user_value fits.2 right.2 (words_apart 2 _ _ e) in
+    let pass_element : p.pass_element ≡ q.pass_element = texts_same p.pass_element q.pass_element fits.3 right.3 (words_apart 3 _ _ e) in
+    let realm : p.realm ≡ q.realm = texts_same p.realm q.realm fits.4 right.4 (words_apart 4 _ _ e) in
+    let secret : p.secret ≡ q.secret = texts_same p.secret q.secret fits.5 right.5 (words_apart 5 _ _ e) in
+    let created : p.created ≡ q.created = dates_same p.created q.created fits.6 right.6 (words_apart 6 _ _ e) in
+    λ i. record { origin = origin i; user_element = user_element i; user_value = user_value i; pass_element = pass_element i; realm = realm i; secret = secret i; created = created i; extra = extra i }
+
 pub changes_same : (one other : Change) → IsChange one → IsChange other → change_words one ≡ change_words other → one ≡ other
 unfolding change_words
 changes_same (SetPreference p) (SetPreference q) fits right e =
     let name : p.name ≡ q.name = texts_same p.name q.name fits.0 right.0 (words_apart 2 _ _ e) in
     let value : p.value ≡ q.value = texts_same p.value q.value fits.1 right.1 (words_apart 3 _ _ e) in
-    λ i. SetPreference (record { name = name i; value = value i })
+    let extra : p.extra ≡ q.extra = fits.2 ∙ sym right.2 in
+    λ i. SetPreference (record { name = name i; value = value i; extra = extra i })
+changes_same (NewerPreference p) (NewerPreference q) fits right e =
+    let name : p.name ≡ q.name = texts_same p.name q.name fits.0 right.0 (words_apart 2 _ _ e) in
+    let value : p.value ≡ q.value = texts_same p.value q.value fits.1 right.1 (words_apart 3 _ _ e) in
+    let extra : p.extra ≡ q.extra = texts_same p.extra q.extra fits.2 right.2 (words_apart 4 _ _ e) in
+    λ i. NewerPreference (record { name = name i; value = value i; extra = extra i })
 changes_same (DeletePreference p) (DeletePreference q) fits right e = ap DeletePreference (texts_same p q fits right (words_apart 2 _ _ e))
-changes_same (SetPassword p) (SetPassword q) fits right e =
-    let origin : p.origin ≡ q.origin = texts_same p.origin q.origin fits.0 right.0 (words_apart 2 _ _ e) in
-    let user_element : p.user_element ≡ q.user_element = texts_same p.user_element q.user_element fits.1 right.1 (words_apart 3 _ _ e) in
-    let user_value : p.user_value ≡ q.user_value = texts_same p.user_value q.user_value fits.2 right.2 (words_apart 4 _ _ e) in
-    let pass_element : p.pass_element ≡ q.pass_element = texts_same p.pass_element q.pass_element fits.3 right.3 (words_apart 5 _ _ e) in
-    let realm : p.realm ≡ q.realm = texts_same p.realm q.realm fits.4 right.4 (words_apart 6 _ _ e) in
-    let secret : p.secret ≡ q.secret = texts_same p.secret q.secret fits.5 right.5 (words_apart 7 _ _ e) in
-    let created : p.created ≡ q.created = dates_same p.created q.created fits.6 right.6 (words_apart 8 _ _ e) in
-    λ i. SetPassword (record { origin = origin i; user_element = user_element i; user_value = user_value i; pass_element = pass_element i; realm = realm i; secret = secret i; created = created i })
+changes_same (SetPassword p) (SetPassword q) fits right e = ap SetPassword (logins_same p q fits.0 right.0 (fits.1 ∙ sym right.1) (ap (drop 2) e))
+changes_same (NewerPassword p) (NewerPassword q) fits right e =
+    ap NewerPassword (logins_same p q fits.0 right.0 (texts_same p.extra q.extra fits.1 right.1 (words_apart 9 _ _ e)) (ap (λ (ws : List (List ℕ)). take 7 (drop 2 ws)) e))
 changes_same (DeletePassword o1 e1 v1 p1 r1) (DeletePassword o2 e2 v2 p2 r2) fits right e =
     let origin : o1 ≡ o2 = texts_same o1 o2 fits.0 right.0 (words_apart 2 _ _ e) in
     let user_element : e1 ≡ e2 = texts_same e1 e2 fits.1 right.1 (words_apart 3 _ _ e) in

@@ -7,7 +7,7 @@ use Rattle.std.proofs.lemmas.Grind.{flat_map-append}
 use Rattle.std.proofs.lemmas.List.{append-nil}
 use Rattle.client_tags.specs.declared.Kind.{Kind}
 use Rattle.sync_values.specs.declared.edit.Edit.{Edit as Change}
-use Rattle.sync_values.specs.declared.edit.Edit.TheVariants.{SetPassword}
+use Rattle.sync_values.specs.declared.edit.Edit.TheVariants.{SetPassword, NewerPassword}
 use Rattle.sync_values.specs.declared.value.Password.{Password as Login}
 use Rattle.sync_model.specs.declared.event.Event.{Event as Step}
 use Rattle.sync_model.specs.declared.event.Event.TheVariants.{Edit, Cut, Turn, Gather, Post, Ask, Offer, Lose, Crash, Deliver, Answer, SetPass, GivePass}
@@ -15,21 +15,39 @@ use Rattle.sync_model.specs.declared.event.Schedule.{Schedule}
 use Rattle.sync_model.specs.Text.{text_word, kind_word}
 use Rattle.schedule_text.specs.declared.line.Line.{Line}
 use Rattle.schedule_text.specs.declared.line.Line.TheVariants.{Clients, Seed, Pass, Event}
-use Rattle.schedule_text.specs.Lines.{change_words, event_words, kept_word, line_text, line_words, lines_of, schedule_text}
+use Rattle.schedule_text.specs.Lines.{change_words, event_words, kept_word, line_text, line_words, lines_of, login_words, schedule_text}
 use Rattle.schedule_text.specs.Printing.{event_text, pass_text, seed_text, spaced}
 
--- the words of a login, in three parts
-pub login_printed : (old head site new : List ℕ) (p : Login) → head ≡ old ++ codes " set password" → site ≡ head ++ spaced (text_word p.origin ∷ text_word p.user_element ∷ text_word p.user_value ∷ text_word p.pass_element ∷ text_word p.realm ∷ []) → new ≡ site ++ spaced (text_word p.secret ∷ signed_decimal p.created ∷ []) → new ≡ old ++ spaced (change_words (SetPassword p))
-unfolding spaced change_words
-login_printed old head site new p head_is site_is new_is =
+-- the words of a login, in two parts
+pub login_printed : (old site new : List ℕ) (p : Login) → site ≡ old ++ spaced (text_word p.origin ∷ text_word p.user_element ∷ text_word p.user_value ∷ text_word p.pass_element ∷ text_word p.realm ∷ []) → new ≡ site ++ spaced (text_word p.secret ∷ signed_decimal p.created ∷ []) → new ≡ old ++ spaced (login_words p)
+unfolding spaced
+login_printed old site new p site_is new_is =
     let five : List (List ℕ) = text_word p.origin ∷ text_word p.user_element ∷ text_word p.user_value ∷ text_word p.pass_element ∷ text_word p.realm ∷ [] in
     let two : List (List ℕ) = text_word p.secret ∷ signed_decimal p.created ∷ [] in
     let f : List ℕ → List ℕ = λ word. 32 ∷ word in
     new_is
-    ∙ ap (λ (t : List ℕ). t ++ flat_map f two) (site_is ∙ ap (λ (t : List ℕ). t ++ flat_map f five) head_is)
-    ∙ append_assoc (old ++ codes " set password") (flat_map f five) (flat_map f two)
-    ∙ append_assoc old (codes " set password") (flat_map f five ++ flat_map f two)
-    ∙ ap (λ (t : List ℕ). old ++ (codes " set password" ++ t)) (sym (flat_map-append f five two))
+    ∙ ap (λ (t : List ℕ). t ++ flat_map f two) site_is
+    ∙ append_assoc old (flat_map f five) (flat_map f two)
+    ∙ ap (λ (t : List ℕ). old ++ t) (sym (flat_map-append f five two))
+
+-- the words of a login that is set, in two parts
+pub set_printed : (old head new : List ℕ) (p : Login) → head ≡ old ++ codes " set password" → new ≡ head ++ spaced (login_words p) → new ≡ old ++ spaced (change_words (SetPassword p))
+unfolding spaced change_words
+set_printed old head new p head_is new_is =
+    new_is ∙ ap (λ (t : List ℕ). t ++ spaced (login_words p)) head_is ∙ append_assoc old (codes " set password") (spaced (login_words p))
+
+-- the words of a newer login, in three parts
+pub newer_printed : (old head login new : List ℕ) (p : Login) → head ≡ old ++ codes " newer password" → login ≡ head ++ spaced (login_words p) → new ≡ login ++ 32 ∷ text_word p.extra → new ≡ old ++ spaced (change_words (NewerPassword p))
+unfolding spaced change_words
+newer_printed old head login new p head_is login_is new_is =
+    let f : List ℕ → List ℕ = λ word. 32 ∷ word in
+    let extra : List (List ℕ) = text_word p.extra ∷ [] in
+    new_is
+    ∙ ap (λ (t : List ℕ). login ++ t) (sym (append-nil (32 ∷ text_word p.extra)))
+    ∙ ap (λ (t : List ℕ). t ++ flat_map f extra) (login_is ∙ ap (λ (t : List ℕ). t ++ flat_map f (login_words p)) head_is)
+    ∙ append_assoc (old ++ codes " newer password") (flat_map f (login_words p)) (flat_map f extra)
+    ∙ append_assoc old (codes " newer password") (flat_map f (login_words p) ++ flat_map f extra)
+    ∙ ap (λ (t : List ℕ). old ++ (codes " newer password" ++ t)) (sym (flat_map-append f (login_words p) extra))
 
 -- words after a first one
 join_spaced : (word : List ℕ) (words : List (List ℕ)) → join_with_byte 32 (word ∷ words) ≡ word ++ spaced words

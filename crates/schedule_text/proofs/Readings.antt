@@ -1,6 +1,8 @@
 -- What is read of the parts of a line.
 use Rattle.std.proofs.Common.{◌≡◌, ◌≢◌, ◌⊎◌, inl, inr, ℕ, suc, ◌+◌, ◌^◌, ◌<◌, ◌≤◌, Bool, true, false, cond, List, [], ◌∷◌, ◌++◌, length, codes, Option, Some, None, Result, Ok, Err, MatchResult, IsErrAnd, ◌==◌, ◌&&◌, not, refl, sym, ap, subst, ◌∙◌, arith, append_assoc}
 use Rattle.std.proofs.lemmas.Bool.{eqb-false}
+use Rattle.client_tags.specs.declared.Kind.{Kind}
+use Rattle.client_tags.specs.declared.Kind.TheVariants.{Preference, Password}
 use Rattle.std.specs.Fmt.{decimal, signed_decimal}
 use Rattle.std.specs.Int.{cast_signed, w64}
 use Rattle.std.proofs.lemmas.Int.{to_z_pos}
@@ -11,16 +13,17 @@ use Rattle.schedule_text.specs.declared.fault.LineReason.{LineReason}
 use Rattle.schedule_text.specs.declared.fault.LineReason.TheVariants.{End, Form, Number, Range, Word, Many, Later}
 use Rattle.schedule_text.specs.declared.fault.LineFault.{LineFault}
 use Rattle.schedule_text.specs.declared.fault.LineFault.TheVariants.{Bad, NoMemory}
-use Rattle.schedule_text.specs.Grammar.{Slot, Fixed, Between, AnyText, after_slot, after_word, fits, form_of, site_form, login_form, set_forms, delete_forms, change_forms, kept_forms}
+use Rattle.schedule_text.specs.Grammar.{Slot, Fixed, Between, AnyText, AnyExtra, after_slot, after_word, fits, form_of, site_form, login_form, set_forms, newer_forms, delete_forms, change_forms, kept_forms}
 use Rattle.schedule_text.specs.Lines.{change_words, kept_word}
 use Rattle.sync_values.specs.declared.edit.Edit.{Edit as Change}
-use Rattle.sync_values.specs.declared.edit.Edit.TheVariants.{SetPreference, DeletePreference, SetPassword, DeletePassword, SetNigori}
-use Rattle.schedule_text.specs.Faults.{HasFault, HasFaultyWord, IsDecimal, IsFault, IsFaulty, IsRight, IsTextWord}
-use Rattle.schedule_text.specs.Spelling.{AreBytes, IsChange, IsDate, IsUpTo}
+use Rattle.sync_values.specs.declared.edit.Edit.TheVariants.{SetPreference, NewerPreference, DeletePreference, SetPassword, NewerPassword, DeletePassword, SetNigori}
+use Rattle.schedule_text.specs.Faults.{HasFault, HasFaultyWord, IsDecimal, IsFault, IsExtraWord, IsFaulty, IsRight, IsTextWord}
+use Rattle.schedule_text.specs.Spelling.{AreBytes, IsChange, IsDate, IsExtra, IsUpTo}
 use Rattle.schedule_text.specs.declared.change.Site.{Site}
 use Rattle.schedule_text.specs.Sites.{AreSiteBytes, site_words}
 use Rattle.schedule_text.specs.Reading.{BeginsOther, IsFaultIn, IsFormFault, IsReading, IsSlotFault, early_fault}
 use Rattle.schedule_text.specs.Refusals.{words_of}
+use Rattle.schedule_text.proofs.Escapes.{texts_same}
 use Rattle.schedule_text.proofs.Numerals.{decimal_is, decimal_value}
 use Rattle.schedule_text.proofs.Words.{HasNoSpace, words_at_space}
 use Rattle.schedule_text.proofs.Forms.{all_fixed, tails, fault_in_after_word, fault_after_number, form_after_number, found_after, after_fixed, HasForm, one_number_fault, one_text_fault, no_form_by_length}
@@ -102,6 +105,44 @@ pub form_fault_behind : (form more : List Slot) (words others : List (List ℕ))
 form_fault_behind form more words others (Bad reason) right is = fault_behind form more words others reason right is
 form_fault_behind form more words others NoMemory right is = tt
 
+pub are_right_on : (form : List Slot) (words : List (List ℕ)) (more : List Slot) (others : List (List ℕ)) → AreRight form words → AreRight more others → AreRight (form ++ more) (words ++ others)
+are_right_on [] [] more others right too = too
+are_right_on [] (word ∷ words) more others right too = absurd right
+are_right_on (slot ∷ form) [] more others right too = absurd right
+are_right_on (slot ∷ form) (word ∷ words) more others right too = (right.0, are_right_on form words more others right.1 too)
+
+-- a word after right ones is at fault, whatever follows it
+fault_at : (front back : List Slot) (slot : Slot) (words more : List (List ℕ)) (word : List ℕ) (reason : LineReason) → AreRight front words → IsFaulty slot word reason → HasFault (front ++ slot ∷ back) (words ++ word ∷ more) reason
+fault_at [] back slot [] more word reason right is = inl is
+fault_at [] back slot (next ∷ words) more word reason right is = absurd right
+fault_at (first ∷ front) back slot [] more word reason right is = absurd right
+fault_at (first ∷ front) back slot (next ∷ words) more word reason right is = inr (right.0, fault_at front back slot words more word reason right.1 is)
+
+pub slot_fault : (front back : List Slot) (slot : Slot) (words more : List (List ℕ)) (word : List ℕ) (fault : LineFault) → AreRight front words → IsSlotFault slot word fault → IsFormFault (front ++ slot ∷ back) (words ++ word ∷ more) fault
+slot_fault front back slot words more word (Bad reason) right is = fault_at front back slot words more word reason right is
+slot_fault front back slot words more word NoMemory right is = tt
+
+-- ---- words of unknown fields
+
+-- a word that spells no text spells no unknown fields
+extra_fault : (kind : Kind) (word : List ℕ) (reason : LineReason) → IsFaulty AnyText word reason → IsFaulty (AnyExtra kind) word reason
+extra_fault kind word Word is = λ right. is (record { text = right.extra; are_bytes = right.are_bytes; is_word = right.is_word })
+extra_fault kind word End is = absurd is
+extra_fault kind word Form is = absurd is
+extra_fault kind word Number is = absurd is
+extra_fault kind word Range is = absurd is
+extra_fault kind word Many is = absurd is
+extra_fault kind word Later is = absurd is
+
+pub no_text_no_extra : (kind : Kind) (word : List ℕ) (fault : LineFault) → IsSlotFault AnyText word fault → IsSlotFault (AnyExtra kind) word fault
+no_text_no_extra kind word (Bad reason) is = extra_fault kind word reason is
+no_text_no_extra kind word NoMemory is = tt
+
+-- the word of a text that is not canonical spells no unknown fields
+pub other_extra : (kind : Kind) (word text : List ℕ) → AreBytes text → word ≡ text_word text → (IsExtra kind text → ⊥) → IsExtraWord kind word → ⊥
+other_extra kind word text bytes is other right =
+    other (subst (IsExtra kind) (texts_same right.extra text right.are_bytes bytes (sym right.is_word ∙ is)) right.is_extra)
+
 text_at : (text : List ℕ) → AreBytes text → IsTextWord (text_word text)
 text_at text bytes = record { text = text; are_bytes = bytes; is_word = refl }
 
@@ -109,6 +150,10 @@ pub site_is_right : (site : Site) (words : List (List ℕ)) → AreSiteBytes sit
 site_is_right site words bytes is =
     subst (AreRight site_form) (sym is)
     (text_at site.origin bytes.0, (text_at site.user_element bytes.1, (text_at site.user_value bytes.2, (text_at site.pass_element bytes.3, (text_at site.realm bytes.4, tt)))))
+
+pub secret_is_right : (secret : List ℕ) (date : ℕ) (word date_word : List ℕ) → AreBytes secret → date ≤ MAX_DATE → word ≡ text_word secret → date_word ≡ decimal date → AreRight (AnyText ∷ Between 0 MAX_DATE ∷ []) (word ∷ date_word ∷ [])
+secret_is_right secret date word date_word bytes within secret_is date_is =
+    (text_is_right secret word bytes secret_is, (number_is_right 0 MAX_DATE date date_word (omega arith) within (omega (arith, within)) date_is, tt))
 
 few_words : (words : List (List ℕ)) (form : List Slot) → length words < 5 → 5 ≤ length form → form_of words (form ∷ []) ≡ None
 few_words words form few long = no_form_by_length words form (λ e. omega (arith, few, long, e))
@@ -119,11 +164,17 @@ no_site words few = few_words words site_form few (omega arith)
 pub no_login : (words : List (List ℕ)) → length words < 5 → form_of words (login_form ∷ []) ≡ None
 no_login words few = few_words words login_form few (omega arith)
 
+pub no_newer_login : (words : List (List ℕ)) → length words < 5 → form_of words ((login_form ++ AnyExtra Password ∷ []) ∷ []) ≡ None
+no_newer_login words few = few_words words (login_form ++ AnyExtra Password ∷ []) few (omega arith)
+
 pub no_site_of : (words rest : List (List ℕ)) (a b c d : List ℕ) → words ≡ a ∷ b ∷ c ∷ d ∷ rest → length rest ≢ 1 → form_of words (site_form ∷ []) ≡ None
 no_site_of words rest a b c d is other = no_form_by_length words site_form (λ e. other (let count : length words ≡ 4 + length rest = ap length is ∙ omega arith in omega (arith, count, e)))
 
 pub no_login_of : (words rest : List (List ℕ)) (a b c d : List ℕ) → words ≡ a ∷ b ∷ c ∷ d ∷ rest → length rest ≢ 3 → form_of words (login_form ∷ []) ≡ None
 no_login_of words rest a b c d is other = no_form_by_length words login_form (λ e. other (let count : length words ≡ 4 + length rest = ap length is ∙ omega arith in omega (arith, count, e)))
+
+pub no_newer_login_of : (words rest : List (List ℕ)) (a b c d : List ℕ) → words ≡ a ∷ b ∷ c ∷ d ∷ rest → length rest ≢ 4 → form_of words ((login_form ++ AnyExtra Password ∷ []) ∷ []) ≡ None
+no_newer_login_of words rest a b c d is other = no_form_by_length words (login_form ++ AnyExtra Password ∷ []) (λ e. other (let count : length words ≡ 4 + length rest = ap length is ∙ omega arith in omega (arith, count, e)))
 
 -- a date as a signed number
 pub date_is : (date : ℕ) → date ≤ MAX_DATE → IsDate (cast_signed w64 date)
@@ -133,8 +184,8 @@ date_word : (date : ℕ) → date ≤ MAX_DATE → decimal date ≡ signed_decim
 date_word date within = ap signed_decimal (sym (to_z_pos w64 date (omega (arith, within))))
 
 -- the seven words of a login
-pub login_words : (o e v p r s d : List ℕ) (site : Site) (secret : List ℕ) (date : ℕ) → date ≤ MAX_DATE → o ∷ e ∷ v ∷ p ∷ r ∷ [] ≡ site_words site → s ≡ text_word secret → d ≡ decimal date → o ∷ e ∷ v ∷ p ∷ r ∷ s ∷ d ∷ [] ≡ site_words site ++ text_word secret ∷ signed_decimal (cast_signed w64 date) ∷ []
-login_words o e v p r s d site secret date within site_is secret_is date_is =
+pub login_words_are : (o e v p r s d : List ℕ) (site : Site) (secret : List ℕ) (date : ℕ) → date ≤ MAX_DATE → o ∷ e ∷ v ∷ p ∷ r ∷ [] ≡ site_words site → s ≡ text_word secret → d ≡ decimal date → o ∷ e ∷ v ∷ p ∷ r ∷ s ∷ d ∷ [] ≡ site_words site ++ text_word secret ∷ signed_decimal (cast_signed w64 date) ∷ []
+login_words_are o e v p r s d site secret date within site_is secret_is date_is =
     ap (λ (ws : List (List ℕ)). ws ++ s ∷ d ∷ []) site_is
     ∙ ap (λ (w : List ℕ). site_words site ++ w ∷ d ∷ []) secret_is
     ∙ ap (λ (w : List ℕ). site_words site ++ text_word secret ∷ w ∷ []) (date_is ∙ date_word date within)
@@ -147,7 +198,7 @@ kept_words true line rest is = ap words_of is ∙ words_at_space (codes "kept") 
 kept_words false line rest is = ap words_of is ∙ words_at_space (codes "lost") rest (no_space_by_test (codes "lost") refl)
 
 pub kept_fault : (kept : Bool) (line rest : List ℕ) (fault : LineFault) → line ≡ kept_word kept ++ 32 ∷ rest → IsFaultIn change_forms (words_of rest) fault → IsFaultIn kept_forms (words_of line) fault
-unfolding kept_word kept_forms change_forms set_forms delete_forms
+unfolding kept_word kept_forms change_forms set_forms newer_forms delete_forms
 kept_fault true line rest fault is at =
     fault_of_same kept_forms (words_of line) (codes "kept" ∷ words_of rest) fault (kept_words true line rest is) (fault_in_after_word (codes "kept") (words_of rest) kept_forms fault refl at)
 kept_fault false line rest fault is at =
@@ -156,10 +207,12 @@ kept_fault false line rest fault is at =
 -- ---- changes after the number of a client
 
 change_form : (edit : Change) → IsChange edit → HasForm change_forms (change_words edit)
-unfolding change_forms set_forms delete_forms change_words
+unfolding change_forms set_forms newer_forms delete_forms change_words
 change_form (SetPreference preference) is = record { form = Fixed (codes "set") ∷ Fixed (codes "preference") ∷ AnyText ∷ AnyText ∷ []; is_form = refl }
+change_form (NewerPreference preference) is = record { form = Fixed (codes "newer") ∷ Fixed (codes "preference") ∷ AnyText ∷ AnyText ∷ AnyExtra Preference ∷ []; is_form = refl }
 change_form (DeletePreference name) is = record { form = Fixed (codes "del") ∷ Fixed (codes "preference") ∷ AnyText ∷ []; is_form = refl }
 change_form (SetPassword password) is = record { form = Fixed (codes "set") ∷ Fixed (codes "password") ∷ login_form; is_form = refl }
+change_form (NewerPassword password) is = record { form = Fixed (codes "newer") ∷ Fixed (codes "password") ∷ (login_form ++ AnyExtra Password ∷ []); is_form = refl }
 change_form (DeletePassword origin user_element user_value pass_element realm) is = record { form = Fixed (codes "del") ∷ Fixed (codes "password") ∷ site_form; is_form = refl }
 change_form (SetNigori keys) is = absurd is
 
@@ -167,7 +220,7 @@ pub change_has_form : (edit : Change) (words : List (List ℕ)) → IsChange edi
 change_has_form edit words right is = subst (HasForm change_forms) (sym is) (change_form edit right)
 
 kept_form : (kept : Bool) (words : List (List ℕ)) → HasForm change_forms words → HasForm kept_forms (kept_word kept ∷ words)
-unfolding kept_word kept_forms change_forms set_forms delete_forms
+unfolding kept_word kept_forms change_forms set_forms newer_forms delete_forms
 kept_form true words has = record { form = Fixed (codes "kept") ∷ has.form; is_form = found_after (codes "kept") words kept_forms refl ∙ ap (after_fixed (codes "kept")) has.is_form }
 kept_form false words has = record { form = Fixed (codes "lost") ∷ has.form; is_form = found_after (codes "lost") words kept_forms refl ∙ ap (after_fixed (codes "lost")) has.is_form }
 

@@ -8,7 +8,7 @@ use Rattle.std.proofs.lemmas.Fmt.{decimal_injective}
 use Rattle.client_tags.specs.declared.Kind.{Kind}
 use Rattle.client_tags.specs.declared.Kind.TheVariants.{Nigori, Preference, Password}
 use Rattle.sync_values.specs.declared.edit.Edit.{Edit as Change}
-use Rattle.sync_values.specs.declared.edit.Edit.TheVariants.{SetPreference, DeletePreference, SetPassword, DeletePassword, SetNigori}
+use Rattle.sync_values.specs.declared.edit.Edit.TheVariants.{SetPreference, NewerPreference, DeletePreference, SetPassword, NewerPassword, DeletePassword, SetNigori}
 use Rattle.sync_values.specs.declared.value.Preference.{Preference as Pref}
 use Rattle.sync_values.specs.declared.value.Password.{Password as Login}
 use Rattle.sync_model.specs.declared.event.Event.{Event as Step}
@@ -19,12 +19,12 @@ use Rattle.schedule_text.specs.declared.fault.LineReason.{LineReason}
 use Rattle.schedule_text.specs.declared.fault.LineReason.TheVariants.{End, Form, Number, Range, Word, Many, Later}
 use Rattle.schedule_text.specs.declared.line.Line.{Line}
 use Rattle.schedule_text.specs.declared.line.Line.TheVariants.{Clients, Seed, Pass, Event}
-use Rattle.schedule_text.specs.Faults.{HasFault, HasNoRoom, IsNotBuilt, IsFault, IsFaultAfter, IsFaulty, IsRight, IsTextWord}
-use Rattle.schedule_text.specs.Grammar.{Slot, Fixed, Between, AnyText, change_forms, clients_form, delete_forms, event_forms, fits, form_of, forms_after, if_may, kept_forms, kind_forms, after_slot, client_forms, number_forms, pass_forms, login_form, may_pass, may_seed, pass_form, seed_form, set_forms, site_form}
+use Rattle.schedule_text.specs.Faults.{HasFault, HasNoRoom, IsNotBuilt, IsFault, IsFaultAfter, IsExtraWord, IsFaulty, IsRight, IsTextWord}
+use Rattle.schedule_text.specs.Grammar.{Slot, Fixed, Between, AnyText, AnyExtra, change_forms, clients_form, delete_forms, event_forms, fits, form_of, forms_after, if_may, kept_forms, kind_forms, newer_forms, after_slot, client_forms, number_forms, pass_forms, login_form, may_pass, may_seed, pass_form, seed_form, set_forms, site_form}
 use Rattle.schedule_text.specs.Limits.{MAX_CLIENTS, MAX_DATE, MAX_EVENTS, MAX_SEED}
-use Rattle.schedule_text.specs.Lines.{change_words, event_words, kept_word, line_words}
+use Rattle.schedule_text.specs.Lines.{change_words, event_words, kept_word, line_words, login_words}
 use Rattle.schedule_text.specs.Places.{HasRoom, IsInPlace, MayStand, is_built_line}
-use Rattle.schedule_text.specs.Spelling.{AreBytes, IsChange, IsDate, IsEvent, IsSchedule, IsUpTo}
+use Rattle.schedule_text.specs.Spelling.{AreBytes, IsChange, IsDate, IsEvent, IsExtra, IsLogin, IsSchedule, IsUpTo}
 use Rattle.schedule_text.proofs.OneLine.{events_same}
 use Rattle.schedule_text.proofs.Escapes.{texts_same}
 use Rattle.schedule_text.proofs.Forms.{after_fixed, all_fixed, fault_cases, found_after, found_number, passed_at, tails}
@@ -34,7 +34,7 @@ use Rattle.schedule_text.specs.declared.verb.Verb.TheVariants.{Edit as EditVerb,
 use Rattle.schedule_text.specs.Reading.{forms_after_verb, verb_word}
 use Rattle.schedule_text.proofs.Verbs.{events_are_fixed, verb_tails}
 use Rattle.schedule_text.proofs.Numerals.{decimal_is, decimal_value}
-use Rattle.schedule_text.proofs.Readings.{AreRight, number_is_right}
+use Rattle.schedule_text.proofs.Readings.{AreRight, are_right_on, number_is_right}
 
 -- some words fit a form, and each is what its place asks for
 pub record HasRight (forms : List (List Slot)) (words : List (List ℕ)) : Type 0 where
@@ -60,17 +60,31 @@ date_right : (date : ℤ) → IsDate date → IsRight (Between 0 MAX_DATE) (sign
 date_right (pos date) is = number_is_right 0 MAX_DATE date (decimal date) (omega arith) is (omega (arith, is)) refl
 date_right (negsuc date) is = absurd is
 
+extra_right : (kind : Kind) (extra : List ℕ) → AreBytes extra → IsExtra kind extra → IsExtraWord kind (text_word extra)
+extra_right kind extra bytes is = record { extra = extra; are_bytes = bytes; is_extra = is; is_word = refl }
+
+login_right : (p : Login) → IsLogin p → AreRight login_form (login_words p)
+login_right p is = (text_right p.origin is.0, (text_right p.user_element is.1, (text_right p.user_value is.2, (text_right p.pass_element is.3, (text_right p.realm is.4, (text_right p.secret is.5, (date_right p.created is.6, tt)))))))
+
 change_right : (edit : Change) → IsChange edit → HasRight change_forms (change_words edit)
-unfolding change_forms set_forms delete_forms change_words
+unfolding change_forms set_forms newer_forms delete_forms change_words
 change_right (SetPreference p) is =
     record { form = Fixed (codes "set") ∷ Fixed (codes "preference") ∷ AnyText ∷ AnyText ∷ []; is_form = refl; are_right = (refl, (refl, (text_right p.name is.0, (text_right p.value is.1, tt)))) }
+change_right (NewerPreference p) is =
+    record {
+      form = Fixed (codes "newer") ∷ Fixed (codes "preference") ∷ AnyText ∷ AnyText ∷ AnyExtra Preference ∷ [];
+      is_form = refl;
+      are_right = (refl, (refl, (text_right p.name is.0, (text_right p.value is.1, (extra_right Preference p.extra is.2 is.3, tt)))));
+    }
 change_right (DeletePreference name) is =
     record { form = Fixed (codes "del") ∷ Fixed (codes "preference") ∷ AnyText ∷ []; is_form = refl; are_right = (refl, (refl, (text_right name is, tt))) }
 change_right (SetPassword p) is =
+    record { form = Fixed (codes "set") ∷ Fixed (codes "password") ∷ login_form; is_form = refl; are_right = (refl, (refl, login_right p is.0)) }
+change_right (NewerPassword p) is =
     record {
-      form = Fixed (codes "set") ∷ Fixed (codes "password") ∷ login_form;
+      form = Fixed (codes "newer") ∷ Fixed (codes "password") ∷ (login_form ++ AnyExtra Password ∷ []);
       is_form = refl;
-      are_right = (refl, (refl, (text_right p.origin is.0, (text_right p.user_element is.1, (text_right p.user_value is.2, (text_right p.pass_element is.3, (text_right p.realm is.4, (text_right p.secret is.5, (date_right p.created is.6, tt)))))))));
+      are_right = (refl, (refl, are_right_on login_form (login_words p) (AnyExtra Password ∷ []) (text_word p.extra ∷ []) (login_right p is.0) (extra_right Password p.extra is.1 is.2, tt)));
     }
 change_right (DeletePassword origin user_element user_value pass_element realm) is =
     record {
@@ -81,7 +95,7 @@ change_right (DeletePassword origin user_element user_value pass_element realm) 
 change_right (SetNigori keys) is = absurd is
 
 kept_right : (kept : Bool) (words : List (List ℕ)) → HasRight change_forms words → HasRight kept_forms (kept_word kept ∷ words)
-unfolding kept_word kept_forms change_forms set_forms delete_forms
+unfolding kept_word kept_forms change_forms set_forms newer_forms delete_forms
 kept_right true words right = right_after_word (codes "kept") words kept_forms refl right
 kept_right false words right = right_after_word (codes "lost") words kept_forms refl right
 
@@ -227,6 +241,7 @@ slot_right (Between low high) word Number right faulty = faulty right.0
 slot_right (Between low high) word Range right (faulty, inl below) = omega (arith, below, right.1)
 slot_right (Between low high) word Range right (faulty, inr above) = omega (arith, above, right.2)
 slot_right AnyText word Word right faulty = faulty right
+slot_right (AnyExtra kind) word Word right faulty = faulty right
 slot_right slot word reason right faulty = faulty
 
 words_right : (form : List Slot) (words : List (List ℕ)) (reason : LineReason) → AreRight form words → HasFault form words reason → ⊥
@@ -247,9 +262,11 @@ slot_reasons (Between low high) word Range Range p q = refl
 slot_reasons (Between low high) word Number Range p q = absurd (p q.0)
 slot_reasons (Between low high) word Range Number p q = absurd (q p.0)
 slot_reasons AnyText word Word Word p q = refl
+slot_reasons (AnyExtra kind) word Word Word p q = refl
 slot_reasons (Between low high) word Number other p q = absurd q
 slot_reasons (Between low high) word Range other p q = absurd q
 slot_reasons AnyText word Word other p q = absurd q
+slot_reasons (AnyExtra kind) word Word other p q = absurd q
 slot_reasons slot word one other p q = absurd p
 
 word_reasons : (form : List Slot) (words : List (List ℕ)) (one other : LineReason) → HasFault form words one → HasFault form words other → one ≡ other

@@ -5,7 +5,7 @@ use Rattle.sync_model.specs.declared.event.Event.{Event}
 use Rattle.schedule_text.specs.declared.fault.LineFault.{LineFault}
 use Rattle.schedule_text.specs.declared.verb.Verb.{Verb}
 use Rattle.schedule_text.specs.declared.verb.Verb.TheVariants.{Edit, Cut, Turn, Gather, Post, Ask, Offer, Lose, Crash, Deliver, Answer, SetPass, GivePass}
-use Rattle.schedule_text.specs.Grammar.{Slot, change_forms, delete_forms, event_forms, form_of, kept_forms, kind_forms, set_forms}
+use Rattle.schedule_text.specs.Grammar.{Slot, change_forms, delete_forms, event_forms, form_of, kept_forms, kind_forms, newer_forms, set_forms}
 use Rattle.schedule_text.specs.Lines.{event_words}
 use Rattle.schedule_text.specs.Spelling.{IsEvent}
 use Rattle.schedule_text.specs.Reading.{BeginsOther, IsReading, forms_after_verb, verb_word, verbs}
@@ -15,9 +15,9 @@ use Rattle.schedule_text.proofs.Readings.{no_space_by_test, reads_after, space_t
 
 -- a line that begins as no event does fits no form of one
 pub no_event_form : (line : List ℕ) (clients passes : ℕ) → AllByRecursion (λ verb. BeginsOther line (verb_word verb)) verbs → form_of (words_of line) (event_forms clients passes) ≡ None
-unfolding event_forms kept_forms change_forms set_forms delete_forms kind_forms
+unfolding event_forms kept_forms change_forms set_forms newer_forms delete_forms kind_forms
 no_event_form line clients passes others =
-    no_form line (event_forms clients passes) (others.0, (others.0, (others.0, (others.0, (others.1.0, (others.1.0, (others.1.0, (others.1.0, (others.1.0, (others.1.0, (others.1.0, (others.1.0, (others.1.1.0, (others.1.1.0, (others.1.1.0, (others.1.1.1.0, (others.1.1.1.0, (others.1.1.1.0, (others.1.1.1.1.0, (others.1.1.1.1.0, (others.1.1.1.1.0, (others.1.1.1.1.1.1.1.0, (others.1.1.1.1.1.1.1.1.0, (others.1.1.1.1.1.1.1.1.1.0, (others.1.1.1.1.1.1.1.1.1.1.0, (others.1.1.1.1.1.1.1.1.1.1.1.0, (others.1.1.1.1.1.1.1.1.1.1.1.1.0, (others.1.1.1.1.1.0, (others.1.1.1.1.1.1.0, tt)))))))))))))))))))))))))))))
+    no_form line (event_forms clients passes) (others.0, (others.0, (others.0, (others.0, (others.0, (others.0, (others.1.0, (others.1.0, (others.1.0, (others.1.0, (others.1.0, (others.1.0, (others.1.0, (others.1.0, (others.1.0, (others.1.0, (others.1.0, (others.1.0, (others.1.1.0, (others.1.1.0, (others.1.1.0, (others.1.1.1.0, (others.1.1.1.0, (others.1.1.1.0, (others.1.1.1.1.0, (others.1.1.1.1.0, (others.1.1.1.1.0, (others.1.1.1.1.1.1.1.0, (others.1.1.1.1.1.1.1.1.0, (others.1.1.1.1.1.1.1.1.1.0, (others.1.1.1.1.1.1.1.1.1.1.0, (others.1.1.1.1.1.1.1.1.1.1.1.0, (others.1.1.1.1.1.1.1.1.1.1.1.1.0, (others.1.1.1.1.1.0, (others.1.1.1.1.1.1.0, tt)))))))))))))))))))))))))))))))))))
 
 verb_is_plain : (verb : Verb) → space_test (verb_word verb) ≡ true
 verb_is_plain Edit = refl
@@ -35,12 +35,12 @@ verb_is_plain SetPass = refl
 verb_is_plain GivePass = refl
 
 pub events_are_fixed : (clients passes : ℕ) → all_fixed (event_forms clients passes) ≡ true
-unfolding event_forms kept_forms change_forms set_forms delete_forms kind_forms
+unfolding event_forms kept_forms change_forms set_forms newer_forms delete_forms kind_forms
 events_are_fixed clients passes = refl
 
 -- what follows the first word of an event
 pub verb_tails : (clients passes : ℕ) (verb : Verb) → forms_after_verb clients passes verb ≡ tails (verb_word verb) (event_forms clients passes)
-unfolding event_forms kept_forms change_forms set_forms delete_forms kind_forms
+unfolding event_forms kept_forms change_forms set_forms newer_forms delete_forms kind_forms
 verb_tails clients passes Edit = refl
 verb_tails clients passes Cut = refl
 verb_tails clients passes Turn = refl

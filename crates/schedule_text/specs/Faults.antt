@@ -1,15 +1,16 @@
 -- Why the words of a line cannot stand.
 use Rattle.std.specs.Prelude.{◌≡◌, ◌⊎◌, ℕ, ◌<◌, ◌≤◌, false, List, [], ◌∷◌, length, slice_index, Option, Some, None, IsTrue}
 use Rattle.std.specs.Str.Parse.{AllDigits, digits_value}
+use Rattle.client_tags.specs.declared.Kind.{Kind}
 use Rattle.sync_model.specs.declared.event.Schedule.{Schedule}
 use Rattle.sync_model.specs.Text.{text_word}
 use Rattle.schedule_text.specs.declared.fault.LineReason.{LineReason}
 use Rattle.schedule_text.specs.declared.fault.LineReason.TheVariants.{End, Form, Number, Range, Word, Many, Later}
 use Rattle.schedule_text.specs.declared.line.Line.{Line}
-use Rattle.schedule_text.specs.Grammar.{Slot, Fixed, Between, AnyText, form_of, forms_after}
+use Rattle.schedule_text.specs.Grammar.{Slot, Fixed, Between, AnyText, AnyExtra, form_of, forms_after}
 use Rattle.schedule_text.specs.Lines.{line_words}
 use Rattle.schedule_text.specs.Places.{HasRoom, IsInPlace, is_built_line}
-use Rattle.schedule_text.specs.Spelling.{AreBytes}
+use Rattle.schedule_text.specs.Spelling.{AreBytes, IsExtra}
 
 -- a word that spells a number, of any length: digits, of which the first is no zero unless it is the only one
 pub record IsDecimal (word : List ℕ) : Type 0 where
@@ -23,18 +24,28 @@ pub record IsTextWord (word : List ℕ) : Type 0 where
   pub are_bytes : AreBytes text
   pub is_word : word ≡ text_word text
 
+-- a word that spells canonical unknown fields of a type
+pub record IsExtraWord (kind : Kind) (word : List ℕ) : Type 0 where
+  pub extra : List ℕ
+  pub are_bytes : AreBytes extra
+  pub is_extra : IsExtra kind extra
+  pub is_word : word ≡ text_word extra
+
 -- a word is what its place in a form asks for
 abbrev pub IsRight : Slot → List ℕ → Type 0
 IsRight (Fixed fixed) word = word ≡ fixed
 IsRight (Between low high) word = IsDecimal word × (low ≤ digits_value 10 word) × (digits_value 10 word ≤ high)
 IsRight AnyText word = IsTextWord word
+IsRight (AnyExtra kind) word = IsExtraWord kind word
 
--- A word is not what its place in a form asks for: it spells no number, or one out of the range, or no text.
+-- A word is not what its place in a form asks for: it spells no number, or one out of the range, or no text, or none
+-- that is canonical unknown fields.
 abbrev pub IsFaulty : Slot → List ℕ → LineReason → Type 0
 IsFaulty (Between low high) word Number = IsDecimal word → ⊥
 IsFaulty (Between low high) word Range =
     IsDecimal word × ((digits_value 10 word < low) ⊎ (high < digits_value 10 word))
 IsFaulty AnyText word Word = IsTextWord word → ⊥
+IsFaulty (AnyExtra kind) word Word = IsExtraWord kind word → ⊥
 IsFaulty slot word reason = ⊥
 
 -- the leftmost of some words that is not what its place in a form asks for

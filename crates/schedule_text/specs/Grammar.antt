@@ -2,14 +2,18 @@
 use Rattle.std.specs.Prelude.{ℕ, Bool, true, false, ◌==◌, ◌&&◌, if◌then◌else◌, List, [], ◌∷◌, ◌++◌, length, codes, map, Option, Some, None}
 use Rattle.std.specs.List.{find}
 use Rattle.std.specs.Str.{bytes_eq}
+use Rattle.client_tags.specs.declared.Kind.{Kind}
+use Rattle.client_tags.specs.declared.Kind.TheVariants.{Preference, Password}
 use Rattle.sync_model.specs.declared.event.Schedule.{Schedule}
 use Rattle.schedule_text.specs.Limits.{MAX_CLIENTS, MAX_EVENTS, MAX_SEED, MAX_DATE}
 
--- what may stand in a place of a line: one word, a number from one to another, or the word of any text
+-- What may stand in a place of a line: one word, a number from one to another, the word of any text, or that of a text
+-- that is canonical unknown fields of a type.
 pub data Slot : Type 0 where
   Fixed : (word : List ℕ) → Slot
   Between : (low high : ℕ) → Slot
   AnyText : Slot
+  AnyExtra : (kind : Kind) → Slot
 
 -- some forms, each after a slot
 abbrev pub after_slot : Slot → List (List Slot) → List (List Slot)
@@ -44,13 +48,20 @@ unfoldable pub set_forms : List (List Slot)
 set_forms =
     after_word (codes "preference") ((AnyText ∷ AnyText ∷ []) ∷ []) ++ after_word (codes "password") (login_form ∷ [])
 
+-- what is set as a newer client sets it, with its unknown fields at the end
+unfoldable pub newer_forms : List (List Slot)
+newer_forms =
+    after_word (codes "preference") ((AnyText ∷ AnyText ∷ AnyExtra Preference ∷ []) ∷ [])
+    ++ after_word (codes "password") ((login_form ++ AnyExtra Password ∷ []) ∷ [])
+
 -- what is deleted: a preference by its name, or a password
 unfoldable pub delete_forms : List (List Slot)
 delete_forms = after_word (codes "preference") ((AnyText ∷ []) ∷ []) ++ after_word (codes "password") (site_form ∷ [])
 
 -- the changes of preferences and of passwords
 unfoldable pub change_forms : List (List Slot)
-change_forms = after_word (codes "set") set_forms ++ after_word (codes "del") delete_forms
+change_forms =
+    after_word (codes "set") set_forms ++ after_word (codes "newer") newer_forms ++ after_word (codes "del") delete_forms
 
 -- the names of the types
 unfoldable pub kind_forms : List (List Slot)
@@ -114,6 +125,7 @@ fits [] [] = true
 fits (word ∷ words) (Fixed fixed ∷ form) = bytes_eq fixed word && fits words form
 fits (word ∷ words) (Between low high ∷ form) = fits words form
 fits (word ∷ words) (AnyText ∷ form) = fits words form
+fits (word ∷ words) (AnyExtra kind ∷ form) = fits words form
 fits [] (slot ∷ form) = false
 fits (word ∷ words) [] = false
 

@@ -3,7 +3,8 @@ use Rattle.std.specs.Prelude.{ℕ, Bool, ◌==◌, if◌then◌else◌, List, []
 use Rattle.std.specs.List.{flat_map, join_with_byte}
 use Rattle.std.specs.Fmt.{decimal, signed_decimal}
 use Rattle.sync_values.specs.declared.edit.Edit.{Edit as Change}
-use Rattle.sync_values.specs.declared.edit.Edit.TheVariants.{SetPreference, DeletePreference, SetPassword, DeletePassword, SetNigori}
+use Rattle.sync_values.specs.declared.edit.Edit.TheVariants.{SetPreference, NewerPreference, DeletePreference, SetPassword, NewerPassword, DeletePassword, SetNigori}
+use Rattle.sync_values.specs.declared.value.Password.{Password as Login}
 use Rattle.sync_model.specs.declared.event.Event.{Event as Step}
 use Rattle.sync_model.specs.declared.event.Event.TheVariants.{Edit, Cut, Turn, Gather, Post, Ask, Offer, Lose, Crash, Deliver, Answer, SetPass, GivePass}
 use Rattle.sync_model.specs.declared.event.Schedule.{Schedule}
@@ -11,15 +12,23 @@ use Rattle.sync_model.specs.Text.{text_word, kind_word}
 use Rattle.schedule_text.specs.declared.line.Line.{Line}
 use Rattle.schedule_text.specs.declared.line.Line.TheVariants.{Clients, Seed, Pass, Event}
 
+-- the words of a login: the texts that name it, its secret and its date
+abbrev pub login_words : Login → List (List ℕ)
+login_words p =
+    text_word p.origin ∷ text_word p.user_element ∷ text_word p.user_value ∷ text_word p.pass_element ∷ text_word p.realm
+    ∷ text_word p.secret ∷ signed_decimal p.created ∷ []
+
 -- the words of a change; no line says a change of a profile's keys
 unfoldable pub change_words : Change → List (List ℕ)
 change_words (SetPreference preference) =
     codes "set" ∷ codes "preference" ∷ text_word preference.name ∷ text_word preference.value ∷ []
+change_words (NewerPreference preference) =
+    codes "newer" ∷ codes "preference" ∷ text_word preference.name ∷ text_word preference.value
+    ∷ text_word preference.extra ∷ []
 change_words (DeletePreference name) = codes "del" ∷ codes "preference" ∷ text_word name ∷ []
-change_words (SetPassword password) =
-    codes "set" ∷ codes "password" ∷ text_word password.origin ∷ text_word password.user_element
-    ∷ text_word password.user_value ∷ text_word password.pass_element ∷ text_word password.realm
-    ∷ text_word password.secret ∷ signed_decimal password.created ∷ []
+change_words (SetPassword password) = codes "set" ∷ codes "password" ∷ login_words password
+change_words (NewerPassword password) =
+    codes "newer" ∷ codes "password" ∷ (login_words password ++ text_word password.extra ∷ [])
 change_words (DeletePassword origin user_element user_value pass_element realm) =
     codes "del" ∷ codes "password" ∷ text_word origin ∷ text_word user_element ∷ text_word user_value
     ∷ text_word pass_element ∷ text_word realm ∷ []

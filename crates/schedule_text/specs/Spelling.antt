@@ -1,8 +1,13 @@
 -- Which schedules there are, which of them this stage knows, and which text spells one.
 use Rattle.std.specs.Prelude.{◌≡◌, ℕ, ℤ, pos, negsuc, ◌<◌, ◌≤◌, Bool, true, false, List, [], length, IsTrue}
 use Rattle.std.specs.List.{AllByRecursion}
+use Rattle.client_tags.specs.declared.Kind.{Kind}
+use Rattle.client_tags.specs.declared.Kind.TheVariants.{Preference, Password}
+use Rattle.sync_values.specs.declared.value.Password.{Password as Login}
 use Rattle.sync_values.specs.declared.edit.Edit.{Edit as Change}
-use Rattle.sync_values.specs.declared.edit.Edit.TheVariants.{SetPreference, DeletePreference, SetPassword, DeletePassword, SetNigori}
+use Rattle.sync_values.specs.declared.edit.Edit.TheVariants.{SetPreference, NewerPreference, DeletePreference, SetPassword, NewerPassword, DeletePassword, SetNigori}
+use Rattle.message_fields.specs.Unknown.{IsCanonicalExtra}
+use Rattle.sync_specifics.specs.Extras.{extra_table}
 use Rattle.sync_model.specs.declared.event.Event.{Event}
 use Rattle.sync_model.specs.declared.event.Event.TheVariants.{Edit, Cut, Turn, Gather, Post, Ask, Offer, Lose, Crash, Deliver, Answer, SetPass, GivePass}
 use Rattle.sync_model.specs.declared.event.Schedule.{Schedule}
@@ -22,13 +27,25 @@ abbrev pub IsDate : ℤ → Type 0
 IsDate (pos date) = date ≤ MAX_DATE
 IsDate (negsuc date) = ⊥
 
--- a change that a line can say: of a preference or of a password, its texts being bytes
+-- canonical unknown fields of a value of this type
+abbrev pub IsExtra : Kind → List ℕ → Type 0
+IsExtra kind extra = IsCanonicalExtra (extra_table kind) extra
+
+-- a login that a line can say, whatever its unknown fields are: its texts are bytes
+abbrev pub IsLogin : Login → Type 0
+IsLogin p =
+    AreBytes p.origin × AreBytes p.user_element × AreBytes p.user_value × AreBytes p.pass_element × AreBytes p.realm
+    × AreBytes p.secret × IsDate p.created
+
+-- A change that a line can say: of a preference or of a password, its texts being bytes. What is set has no unknown
+-- fields of its own, and those of a newer client are canonical.
 abbrev pub IsChange : Change → Type 0
-IsChange (SetPreference preference) = AreBytes preference.name × AreBytes preference.value
+IsChange (SetPreference preference) = AreBytes preference.name × AreBytes preference.value × (preference.extra ≡ [])
+IsChange (NewerPreference preference) =
+    AreBytes preference.name × AreBytes preference.value × AreBytes preference.extra × IsExtra Preference preference.extra
 IsChange (DeletePreference name) = AreBytes name
-IsChange (SetPassword password) =
-    AreBytes password.origin × AreBytes password.user_element × AreBytes password.user_value
-    × AreBytes password.pass_element × AreBytes password.realm × AreBytes password.secret × IsDate password.created
+IsChange (SetPassword password) = IsLogin password × (password.extra ≡ [])
+IsChange (NewerPassword password) = IsLogin password × AreBytes password.extra × IsExtra Password password.extra
 IsChange (DeletePassword origin user_element user_value pass_element realm) =
     AreBytes origin × AreBytes user_element × AreBytes user_value × AreBytes pass_element × AreBytes realm
 IsChange (SetNigori keys) = ⊥
@@ -61,8 +78,10 @@ pub record IsSchedule (schedule : Schedule) : Type 0 where
 -- this stage knows the change: it is of a preference
 abbrev pub is_built_change : Change → Bool
 is_built_change (SetPreference preference) = true
+is_built_change (NewerPreference preference) = true
 is_built_change (DeletePreference name) = true
 is_built_change (SetPassword password) = false
+is_built_change (NewerPassword password) = false
 is_built_change (DeletePassword origin user_element user_value pass_element realm) = false
 is_built_change (SetNigori keys) = false
 

@@ -3,7 +3,8 @@
 ghost use Rattle.std.specs.Prelude.{◌≡◌, ◌∷◌, ◌++◌, ◌<◌, ◌≤◌, ◌≢◌, [], codes, length, List, ℕ, MatchOption, MatchResult, if◌then◌else◌};
 ghost use Rattle.sync_model.specs.Text.{text_word};
 ghost use Rattle.std.specs.Fmt.{decimal};
-ghost use Rattle.schedule_text.specs.Grammar.{Between, AnyText, site_form, login_form, set_forms, delete_forms, change_forms, kept_forms};
+ghost use Rattle.client_tags.specs.declared.Kind.TheVariants.{Preference as PreferenceKind, Password as PasswordKind};
+ghost use Rattle.schedule_text.specs.Grammar.{Between, AnyText, AnyExtra, site_form, login_form, set_forms, newer_forms, delete_forms, change_forms, kept_forms};
 ghost use Rattle.schedule_text.specs.Limits.{MAX_DATE};
 ghost use Rattle.schedule_text.specs.Sites.{AreSiteBytes, site_words};
 ghost use Rattle.schedule_text.specs.Lines.{change_words, kept_word};
@@ -14,9 +15,9 @@ ghost use Rattle.schedule_text.specs.Refusals.{words_of};
 use crate::fault::{LineFault, LineReason};
 use crate::number::number_in;
 use crate::pieces::{after, cut_word, one_word, two_words};
-use crate::text_word::text_in;
+use crate::text_word::{extra_in, text_in};
 use std::alloc::Global;
-use sync_model::Edit;
+use sync_model::{Edit, Kind};
 use sync_values::{Password, Preference};
 use wire_fields::Octets;
 
@@ -44,7 +45,21 @@ fn set_preference(alloc: Global, line: &[u8]) -> Result<Edit, LineFault>
     };
     let name = text_in(alloc, name)?;
     let value = text_in(alloc, value)?;
-    Ok(Edit::SetPreference(Preference { name, value }))
+    let extra = Octets::new(alloc);
+    Ok(Edit::SetPreference(Preference { name, value, extra }))
+}
+
+/// The preference that a newer client sets, by its last three words.
+fn newer_preference(alloc: Global, line: &[u8]) -> Result<Edit, LineFault>
+    ensures { IsReading (codes "newer" ∷ codes "preference" ∷ []) ((AnyText ∷ AnyText ∷ AnyExtra PreferenceKind ∷ []) ∷ []) IsChange change_words (words_of line.now) result }
+{
+    let Some((name, value, extra)) = three_words(line) else {
+        return Err(NO_FORM);
+    };
+    let name = text_in(alloc, name)?;
+    let value = text_in(alloc, value)?;
+    let extra = extra_in(alloc, Kind::Preference, extra)?;
+    Ok(Edit::NewerPreference(Preference { name, value, extra }))
 }
 
 /// The deletion of a preference, by its last word.
@@ -117,7 +132,7 @@ fn delete_password(alloc: Global, line: &[u8]) -> Result<Edit, LineFault>
     })
 }
 
-/// The last three words of a login: its realm, its secret and its date.
+/// The words of a line that has three.
 fn three_words(line: &[u8]) -> Option<(&[u8], &[u8], &[u8])>
     ensures { MatchOption result (length (words_of line.now) ≢ 3)
         (λ words. words_of line.now ≡ words.0.now ∷ words.1.now ∷ words.2.now ∷ []) }
@@ -158,6 +173,42 @@ fn set_password(alloc: Global, line: &[u8]) -> Result<Edit, LineFault>
         realm: site.realm,
         secret,
         created: date as i64,
+        extra: Octets::new(alloc),
+    }))
+}
+
+/// The last four words of a newer login: its realm, its secret, its date and its unknown fields.
+fn last_words(line: &[u8]) -> Option<(&[u8], &[u8], &[u8], &[u8])>
+    ensures { MatchOption result (length (words_of line.now) ≢ 4)
+        (λ words. words_of line.now ≡ words.0.now ∷ words.1.now ∷ words.2.now ∷ words.3.now ∷ []) }
+{
+    let (realm, rest) = cut_word(line)?;
+    let (secret, date, extra) = three_words(rest)?;
+    Some((realm, secret, date, extra))
+}
+
+/// The login that a newer client sets, by its eight words.
+fn newer_password(alloc: Global, line: &[u8]) -> Result<Edit, LineFault>
+    ensures { IsReading (codes "newer" ∷ codes "password" ∷ []) ((login_form ++ AnyExtra PasswordKind ∷ []) ∷ []) IsChange change_words (words_of line.now) result }
+{
+    let Some((origin, user_element, user_value, pass_element, rest)) = four_words(line) else {
+        return Err(NO_FORM);
+    };
+    let Some((realm, secret, date, extra)) = last_words(rest) else {
+        return Err(NO_FORM);
+    };
+    let site = site_of(alloc, origin, user_element, user_value, pass_element, realm)?;
+    let (secret, date) = secret_of(alloc, secret, date)?;
+    let extra = extra_in(alloc, Kind::Password, extra)?;
+    Ok(Edit::NewerPassword(Password {
+        origin: site.origin,
+        user_element: site.user_element,
+        user_value: site.user_value,
+        pass_element: site.pass_element,
+        realm: site.realm,
+        secret,
+        created: date as i64,
+        extra,
     }))
 }
 
@@ -170,6 +221,19 @@ fn set_of(alloc: Global, line: &[u8]) -> Result<Edit, LineFault>
     }
     if let Some(rest) = after(line, b"password ") {
         return set_password(alloc, rest);
+    }
+    Err(NO_FORM)
+}
+
+/// A change of a newer client, after its first word.
+fn newer_of(alloc: Global, line: &[u8]) -> Result<Edit, LineFault>
+    ensures { IsReading (codes "newer" ∷ []) newer_forms IsChange change_words (words_of line.now) result }
+{
+    if let Some(rest) = after(line, b"preference ") {
+        return newer_preference(alloc, rest);
+    }
+    if let Some(rest) = after(line, b"password ") {
+        return newer_password(alloc, rest);
     }
     Err(NO_FORM)
 }
@@ -193,6 +257,9 @@ pub(crate) fn change_of(alloc: Global, line: &[u8]) -> Result<Edit, LineFault>
 {
     if let Some(rest) = after(line, b"set ") {
         return set_of(alloc, rest);
+    }
+    if let Some(rest) = after(line, b"newer ") {
+        return newer_of(alloc, rest);
     }
     if let Some(rest) = after(line, b"del ") {
         return delete_of(alloc, rest);

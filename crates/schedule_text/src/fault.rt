@@ -18,7 +18,7 @@ pub enum LineReason {
     Number,
     /// A number is too small or too great.
     Range,
-    /// A word is not the one spelling of a text.
+    /// A word is not the one spelling of a text, or spells no canonical unknown fields where these must stand.
     Word,
     /// There are already as many lines of this sort as there may be.
     Many,

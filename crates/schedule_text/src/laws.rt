@@ -1,6 +1,6 @@
 //! What holds of texts, whoever reads them.
 
-ghost use Rattle.schedule_text.specs.Laws.{SpellsOneSchedule, RefusesOneLine, RefusesNoSchedule, IsReadBack};
+ghost use Rattle.schedule_text.specs.Laws.{SpellsOneSchedule, RefusesOneLine, RefusesNoSchedule, IsReadBack, SpellsCanonicalEdits};
 
 /// A text spells at most one schedule.
 pub fn spells_one_schedule()
@@ -20,4 +20,10 @@ pub fn refuses_no_schedule()
 /// The text of a schedule that this stage knows spells it, and no other schedule.
 pub fn texts_are_read_back()
     ensures { IsReadBack }
+{}
+
+/// Each edit of a schedule that a text spells is canonical: a set one names no unknown fields, and those of a newer one
+/// are canonical.
+pub fn spells_canonical_edits()
+    ensures { SpellsCanonicalEdits }
 {}

@@ -19,7 +19,10 @@ mod text_word;
 mod verb;
 
 pub use fault::{LineReason, ParseFault};
-pub use laws::{refuses_no_schedule, refuses_one_line, spells_one_schedule, texts_are_read_back};
+pub use laws::{
+    refuses_no_schedule, refuses_one_line, spells_canonical_edits, spells_one_schedule,
+    texts_are_read_back,
+};
 pub use line::Line;
 pub use parse::parse_schedule;
 pub use print::print_schedule;

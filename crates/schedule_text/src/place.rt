@@ -127,8 +127,9 @@ fn is_known_change(edit: &Edit) -> bool
     ensures { result ≡ is_built_change edit.now }
 {
     match edit {
-        Edit::SetPreference(_) | Edit::DeletePreference(_) => true,
-        Edit::SetPassword(_) | Edit::DeletePassword { .. } | Edit::SetNigori(_) => false,
+        Edit::SetPreference(_) | Edit::NewerPreference(_) | Edit::DeletePreference(_) => true,
+        Edit::SetPassword(_) | Edit::NewerPassword(_) | Edit::DeletePassword { .. } => false,
+        Edit::SetNigori(_) => false,
     }
 }
 

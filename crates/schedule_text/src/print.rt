@@ -3,9 +3,9 @@
 ghost use Rattle.std.specs.Prelude.{◌≡◌, ◌++◌, ◌∷◌, [], IfOk, OnOk, OnErr};
 ghost use Rattle.std.specs.List.{flat_map};
 ghost use Rattle.std.specs.Fmt.{decimal, signed_decimal};
-ghost use Rattle.sync_values.specs.declared.edit.Edit.TheVariants.{SetPreference, SetPassword};
+ghost use Rattle.sync_values.specs.declared.edit.Edit.TheVariants.{SetPreference, NewerPreference, SetPassword, NewerPassword};
 ghost use Rattle.sync_model.specs.Text.{kind_word, text_word};
-ghost use Rattle.schedule_text.specs.Lines.{change_words, kept_word, schedule_text};
+ghost use Rattle.schedule_text.specs.Lines.{change_words, kept_word, login_words, schedule_text};
 ghost use Rattle.schedule_text.specs.Printing.{event_text, pass_text, seed_text, spaced};
 ghost use Rattle.text_lines.specs.Continued.{Continues};
 
@@ -65,12 +65,11 @@ fn write_secret(out: &mut Vec<u8>, password: &Password) -> Result<(), NoMemory>
 }
 
 /// The words of a login, each after a space.
-#[tactic(auto, using(text_lines::proofs::Continuing::continues_after), unfolding(crate::specs::Printing::spaced, crate::specs::Lines::change_words))]
+#[tactic(auto, using(text_lines::proofs::Continuing::continues_after))]
 fn write_login(out: &mut Vec<u8>, password: &Password) -> Result<(), NoMemory>
-    ensures ok { OnOk result (out.new.items ≡ out.old.items ++ spaced (change_words (SetPassword password.now))) }
+    ensures ok { OnOk result (out.new.items ≡ out.old.items ++ spaced (login_words password.now)) }
     ensures err { OnErr result (Continues out.old.items out.new.items) }
 {
-    write_text(out, b" set password")?;
     write_site(
         out,
         &password.origin,
@@ -80,6 +79,54 @@ fn write_login(out: &mut Vec<u8>, password: &Password) -> Result<(), NoMemory>
         &password.realm,
     )?;
     write_secret(out, password)
+}
+
+/// The words of a login that is set, each after a space.
+#[tactic(auto, using(text_lines::proofs::Continuing::continues_after))]
+fn write_set_login(out: &mut Vec<u8>, password: &Password) -> Result<(), NoMemory>
+    ensures ok { OnOk result (out.new.items ≡ out.old.items ++ spaced (change_words (SetPassword password.now))) }
+    ensures err { OnErr result (Continues out.old.items out.new.items) }
+{
+    write_text(out, b" set password")?;
+    write_login(out, password)
+}
+
+/// A space, and unknown fields as a word.
+fn write_extra(out: &mut Vec<u8>, extra: &Octets) -> Result<(), NoMemory>
+    ensures ok { OnOk result (out.new.items ≡ out.old.items ++ 32 ∷ text_word extra.now) }
+    ensures err { OnErr result (Continues out.old.items out.new.items) }
+{
+    write_pieces(out, &[Piece::Text(b" "), Piece::Word(extra.as_slice())])
+}
+
+/// The words of a login as a newer client sets it, each after a space.
+#[tactic(auto, using(text_lines::proofs::Continuing::continues_after))]
+fn write_newer_login(out: &mut Vec<u8>, password: &Password) -> Result<(), NoMemory>
+    ensures ok { OnOk result (out.new.items ≡ out.old.items ++ spaced (change_words (NewerPassword password.now))) }
+    ensures err { OnErr result (Continues out.old.items out.new.items) }
+{
+    write_text(out, b" newer password")?;
+    write_login(out, password)?;
+    write_extra(out, &password.extra)
+}
+
+/// The words of a preference as a newer client sets it, each after a space.
+#[tactic(auto, unfolding(crate::specs::Printing::spaced, crate::specs::Lines::change_words))]
+fn write_newer_preference(out: &mut Vec<u8>, preference: &Preference) -> Result<(), NoMemory>
+    ensures ok { OnOk result (out.new.items ≡ out.old.items ++ spaced (change_words (NewerPreference preference.now))) }
+    ensures err { OnErr result (Continues out.old.items out.new.items) }
+{
+    write_pieces(
+        out,
+        &[
+            Piece::Text(b" newer preference "),
+            Piece::Word(preference.name.as_slice()),
+            Piece::Text(b" "),
+            Piece::Word(preference.value.as_slice()),
+            Piece::Text(b" "),
+            Piece::Word(preference.extra.as_slice()),
+        ],
+    )
 }
 
 /// The words of a preference that is set, each after a space.
@@ -107,6 +154,7 @@ fn write_change(out: &mut Vec<u8>, edit: &Edit) -> Result<(), NoMemory>
 {
     match edit {
         Edit::SetPreference(preference) => write_preference(out, preference),
+        Edit::NewerPreference(preference) => write_newer_preference(out, preference),
         Edit::DeletePreference(name) => write_pieces(
             out,
             &[
@@ -114,7 +162,8 @@ fn write_change(out: &mut Vec<u8>, edit: &Edit) -> Result<(), NoMemory>
                 Piece::Word(name.as_slice()),
             ],
         ),
-        Edit::SetPassword(password) => write_login(out, password),
+        Edit::SetPassword(password) => write_set_login(out, password),
+        Edit::NewerPassword(password) => write_newer_login(out, password),
         Edit::DeletePassword {
             origin,
             user_element,

@@ -20,7 +20,8 @@ fn edits(alloc: Global) -> Result<(Edit, Edit), NoMemory> {
     let name = Octets::from_slice(alloc, b"a b")?;
     let value = Octets::new(alloc);
     let other = Octets::from_slice(alloc, b"-")?;
-    let set = Edit::SetPreference(Preference { name, value });
+    let extra = Octets::new(alloc);
+    let set = Edit::SetPreference(Preference { name, value, extra });
     Ok((set, Edit::DeletePreference(other)))
 }
 
@@ -87,7 +88,7 @@ fn reads_each_kind_of_line(rt: HostRuntime) -> Result<(), Fail> {
     Ok(())
 }
 
-fn login(alloc: Global) -> Result<Password, NoMemory> {
+fn login(alloc: Global, extra: &[u8]) -> Result<Password, NoMemory> {
     Ok(Password {
         origin: Octets::from_slice(alloc, b"https://a")?,
         user_element: Octets::from_slice(alloc, b"u e")?,
@@ -96,6 +97,7 @@ fn login(alloc: Global) -> Result<Password, NoMemory> {
         realm: Octets::from_slice(alloc, b"100%")?,
         secret: Octets::from_slice(alloc, b"\n\xff")?,
         created: 9_223_372_036_854_775_807,
+        extra: Octets::from_slice(alloc, extra)?,
     })
 }
 
@@ -144,7 +146,7 @@ const LATER_TEXT: &[u8] =
 
 #[test]
 fn prints_passphrases_cuts_and_passwords(rt: HostRuntime) -> Result<(), Fail> {
-    let login = login(rt.alloc())?;
+    let login = login(rt.alloc(), b"")?;
     let deletion = deletion(rt.alloc())?;
     let mut events = Vec::new(rt.alloc());
     push_cuts(&mut events, login, deletion)?;
@@ -157,6 +159,54 @@ fn prints_passphrases_cuts_and_passwords(rt: HostRuntime) -> Result<(), Fail> {
     };
     let text = print_schedule(rt.alloc(), &schedule)?;
     assert_eq!(rt; text.as_slice(), LATER_TEXT);
+    Ok(())
+}
+
+fn newer_steps(alloc: Global) -> Result<Vec<Event>, NoMemory> {
+    let preference = Preference {
+        name: Octets::from_slice(alloc, b"a")?,
+        value: Octets::from_slice(alloc, b"1")?,
+        extra: Octets::from_slice(alloc, b"\x18\x07")?,
+    };
+    let login = login(alloc, b"\x60\x01")?;
+    let mut events = Vec::new(alloc);
+    events.push(Event::Edit {
+        client: 2,
+        edit: Edit::NewerPreference(preference),
+    })?;
+    events.push(Event::Edit {
+        client: 1,
+        edit: Edit::NewerPassword(login),
+    })?;
+    Ok(events)
+}
+
+const NEWER_TEXT: &[u8] =
+    b"clients 2\nedit 2 newer preference a 1 %18%07\nedit 1 newer password https://a u%20e - %2D 100%25 %0A%FF 9223372036854775807 `%01\n";
+
+#[test]
+fn prints_the_edits_of_newer_clients(rt: HostRuntime) -> Result<(), Fail> {
+    let schedule = Schedule {
+        clients: 2,
+        seed: 0,
+        passes: List::new(rt.alloc()),
+        events: List::from_vec(newer_steps(rt.alloc())?),
+    };
+    let text = print_schedule(rt.alloc(), &schedule)?;
+    assert_eq!(rt; text.as_slice(), NEWER_TEXT);
+    Ok(())
+}
+
+// A newer client writes more fields, or none.
+const NEWER_PREFERENCES: &[u8] =
+    b"clients 2\nedit 2 newer preference a 1 %18%07\nedit 1 newer preference a 2 %18%08%1A%01a\nedit 1 newer preference a 3 -\n";
+
+#[test]
+fn reads_the_preferences_of_newer_clients(rt: HostRuntime) -> Result<(), Fail> {
+    let schedule = parse_schedule(rt.alloc(), NEWER_PREFERENCES)?;
+    assert_eq!(rt; schedule.events.len(), 3);
+    let text = print_schedule(rt.alloc(), &schedule)?;
+    assert_eq!(rt; text.as_slice(), NEWER_PREFERENCES);
     Ok(())
 }
 
@@ -254,6 +304,41 @@ fn refuses_words(rt: HostRuntime) -> Result<(), Fail> {
 }
 
 #[test]
+fn refuses_fields_that_are_not_canonical(rt: HostRuntime) -> Result<(), Fail> {
+    let word = bad_line(2, LineReason::Word);
+    // A known field, a number of too many bytes, a group without an end, and no text.
+    assert_eq!(rt;
+        event_refusal(&rt, b"edit 1 newer preference a 1 %0A\n")?,
+        word
+    );
+    assert_eq!(rt;
+        event_refusal(&rt, b"edit 1 newer preference a 1 %18%87%00\n")?,
+        word
+    );
+    assert_eq!(rt;
+        event_refusal(&rt, b"edit 2 newer preference b %C3%A9 %1B\n")?,
+        word
+    );
+    assert_eq!(rt;
+        event_refusal(&rt, b"edit 1 newer preference a 1 \n")?,
+        word
+    );
+    // The leftmost word that is at fault is told, and the form before all of them.
+    let range = bad_line(2, LineReason::Range);
+    assert_eq!(rt;
+        event_refusal(&rt, b"edit 3 newer preference a 1 %0A\n")?,
+        range
+    );
+    let form = bad_line(2, LineReason::Form);
+    assert_eq!(rt; event_refusal(&rt, b"edit 1 newer preference a 1\n")?, form);
+    assert_eq!(rt;
+        event_refusal(&rt, b"edit 1 set preference a 1 %18%07\n")?,
+        form
+    );
+    Ok(())
+}
+
+#[test]
 fn refuses_a_date(rt: HostRuntime) -> Result<(), Fail> {
     assert_eq!(rt;
         event_refusal(
@@ -275,6 +360,10 @@ fn refuses_a_date(rt: HostRuntime) -> Result<(), Fail> {
 #[test]
 fn refuses_what_is_not_built(rt: HostRuntime) -> Result<(), Fail> {
     let later = bad_line(2, LineReason::Later);
+    assert_eq!(rt;
+        event_refusal(&rt, b"edit 1 newer password a b c d e f 0 `%01\n")?,
+        later
+    );
     assert_eq!(rt; event_refusal(&rt, b"lose 1\n")?, later);
     assert_eq!(rt; event_refusal(&rt, b"pass x\n")?, later);
     assert_eq!(rt; event_refusal(&rt, b"crash 1\n")?, later);
@@ -302,6 +391,26 @@ fn reads_so_many_events(rt: HostRuntime) -> Result<(), Fail> {
 }
 
 #[test]
+fn each_reason_has_its_words(rt: HostRuntime) -> Result<(), Fail> {
+    let reasons: [(LineReason, &str); 7] = [
+        (LineReason::End, "it has no line end"),
+        (LineReason::Form, "no line of this form may stand here"),
+        (LineReason::Number, "a word is no number"),
+        (LineReason::Range, "a number is out of range"),
+        (LineReason::Word, "a word is no text"),
+        (LineReason::Many, "there are too many lines of this sort"),
+        (LineReason::Later, "this line is not known yet"),
+    ];
+    for (reason, words) in reasons {
+        let text = format!(in rt.alloc(); "{reason}")?;
+        assert_eq!(rt; text.as_str(), words);
+    }
+    let text = format!(in rt.alloc(); "{}", ParseFault::NoMemory)?;
+    assert_eq!(rt; text.as_str(), "no memory");
+    Ok(())
+}
+
+#[test]
 fn shows_a_refusal(rt: HostRuntime) -> Result<(), Fail> {
     let fault = refusal(&rt, b"clients 1\noffer 1").ok_or("the last line has no end")?;
     let text = format!(in rt.alloc(); "{fault}")?;
@@ -318,4 +427,5 @@ fn has_laws() {
     refuses_one_line();
     refuses_no_schedule();
     texts_are_read_back();
+    spells_canonical_edits();
 }

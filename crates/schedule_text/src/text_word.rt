@@ -4,13 +4,16 @@ ghost use Rattle.std.specs.Prelude.{◌≡◌, ◌≢◌, ◌<◌, ◌/◌, ◌%
 ghost use Rattle.std.specs.List.{flat_map};
 ghost use Rattle.std.specs.Fmt.{digit_glyph};
 ghost use Rattle.sync_model.specs.Text.{is_plain, byte_text, text_word};
-ghost use Rattle.schedule_text.specs.Grammar.{AnyText};
-ghost use Rattle.schedule_text.specs.Spelling.{AreBytes};
+ghost use Rattle.sync_specifics.specs.Extras.{HasExtra};
+ghost use Rattle.schedule_text.specs.Grammar.{AnyText, AnyExtra};
+ghost use Rattle.schedule_text.specs.Spelling.{AreBytes, IsExtra};
 ghost use Rattle.schedule_text.specs.Reading.{IsSlotFault, Reads};
 
 use crate::fault::{LineFault, LineReason};
 use crate::pieces::are_same;
 use std::alloc::Global;
+use sync_model::Kind;
+use sync_specifics::is_canonical_extra;
 use wire_fields::{NoMemory, Octets};
 
 /// A byte stands for itself in a word.
@@ -114,4 +117,17 @@ pub(crate) fn text_in(alloc: Global, word: &[u8]) -> Result<Octets, LineFault>
         Some(text) => Ok(text),
         None => Err(LineFault::Bad(LineReason::Word)),
     }
+}
+
+/// The unknown fields of a word that must spell canonical ones of this type.
+pub(crate) fn extra_in(alloc: Global, kind: Kind, word: &[u8]) -> Result<Octets, LineFault>
+    requires { HasExtra kind }
+    ensures { MatchResult result (λ extra. AreBytes extra × IsExtra kind extra × (word.now ≡ text_word extra))
+        (λ fault. IsSlotFault (AnyExtra kind) word.now fault) }
+{
+    let extra = text_in(alloc, word)?;
+    if !is_canonical_extra(kind, extra.as_slice()) {
+        return Err(LineFault::Bad(LineReason::Word));
+    }
+    Ok(extra)
 }

@@ -9,19 +9,38 @@ pub struct Row {
     pub canonical: bool,
 }
 
-pub const SHOWN: [Row; 5] = [
+pub const SHOWN: [Row; 7] = [
     Row {
         direction: Direction::ToServer,
-        bytes: b"\x18\x01\"\x83\x01\n@ \x02\xaa\x01\x1c\xb2\xb4\x12\x18\n\x00\x12\x01m\x8b\xcb\xae\
-            \xe1\x09\x8c\xcb\xae\xe1\x09\x85\xb9\xe4\x87\n\xb9\x05\xa1v\xba\x01\x1cQJlDtKtmq9C3l\
-            aPB2kBiX+98u08=\n \n\x01\xb9 \xac\x02\xaa\x01\x17\x8a\xb3\x16\x13\n\x11\n\x0c\x89:\
-            \x08\xfc\x83g\x06y\x95U\x8e\x99\x12\x01\xed\n\x1d\n\x02\"\xa1 \x01\xaa\x01\x14\n\x0e\
-            \n\x09\xf1\x09\x9d\xc7\xbe\x10t\x83\xae\x12\x01\x12\xb2\xb4\x12\x00:\x01_",
-        text: b"commit - entries 3\nentity - version 2 deleted 0 hash QJlDtKtmq9C3laPB2kBiX+98u08= p\
-            reference - m\nentity %B9 version 300 deleted 0 hash none sealed password %89:%08%FC\
-            %83g%06y%95U%8E%99 1\nentity \"%A1 version 1 deleted 0 hash none sealed preference %\
-            F1%09%9D%C7%BE%10t%83%AE 1\nbirthday _\nother\n",
+        bytes: b"\x18\x01\"{\n?\n\"!;\xdc\x86a\x04\xa7\x97\xa1\xa6d\xd2\xc5N\x84\xec\xa9}3|\
+            \xb7S\x8dy\xedqr\xdeLa\x04\xe7\xeeV \x80\x01\x90\x01\x01\xaa\x01\x12\n\x0c\n\x01\
+            \xa6\x12\x07&\x0b\x88=\x9b\xe5p\xb2\xb4\x12\x00\n8\n\x02Z\x17 \xff\xff\xff\xff\xff\
+            \xff\xff\xff\xff\x01\x90\x01\x01\xaa\x01\x04\xb2\xb4\x12\x00\xba\x01\x1cLFxLIHr7c8\
+            2hBRcxeAwHNttpCLc=:\x016",
+        text: b"commit - entries 2\nentity !;%DC%86a%04%A7%97%A1%A6d%D2%C5N%84%EC%A9}3|%B7S%8D\
+            y%EDqr%DELa%04%E7%EEV version 128 deleted 1 hash none sealed preference %A6 7\nent\
+            ity Z%17 version -1 deleted 1 hash LFxLIHr7c82hBRcxeAwHNttpCLc= empty preference\n\
+            birthday 6\ncanonical\n",
+        canonical: true,
+    },
+    Row {
+        direction: Direction::FromServer,
+        bytes: b" \x84\x8c\xb8\xf4\x032\x01\xdd \x84\x8c\xb8\xf4\x03",
+        text: b"error 1049495044\nbirthday %DD\nother\n",
         canonical: false,
+    },
+    Row {
+        direction: Direction::ToServer,
+        bytes: b"\x18\x01\"\x91\x01\nP\xaa\x01.\xb2\xb4\x12*\n\x00\x12\x02\xc0\xe9\xc3\xd7\xcc\
+            \xd4\x08\xe1\x02\xc0cbp~}\x1a\xef\xa2\x01\x00\xc4\xd7\xcc\xd4\x08\xd9\xc7\xe4\xe1\
+            \x0e\xb1\xa3\x8f\x89\x99L\x8e\xf3\xba\x01\x1cLIF/t7DDTvZ+UI4/I4TZ1otXIiI=\n=\n\x02\
+            \xc7\x10 \xff\xff\xff\xff\xff\xff\xff\xff\xff\x01\xaa\x01\x0c\x8a\xb3\x16\x08\n\
+            \x06\n\x01\xc5\x12\x01\xcc\xba\x01\x1cTJzBUK6m8wq6Jmg55S6gHkq/hDc=:\x09|&$\xbf\x87\
+            Vt\x81\x83",
+        text: b"commit - entries 2\nentity - version 0 deleted 0 hash LIF/t7DDTvZ+UI4/I4TZ1otX\
+            IiI= preference - %C0%E9\nentity %C7%10 version -1 deleted 0 hash TJzBUK6m8wq6Jmg5\
+            5S6gHkq/hDc= sealed password %C5 1\nbirthday |&$%BF%87Vt%81%83\ncanonical\n",
+        canonical: true,
     },
     Row {
         direction: Direction::ToServer,

@@ -1,5 +1,5 @@
 use Rattle.std.proofs.Common.{◌≡◌, ◌∙◌, ap, refl, ℕ, List, [], ◌∷◌, codes}
-use Rattle.schedule_text.specs.Grammar.{kept_forms, change_forms, set_forms, delete_forms}
+use Rattle.schedule_text.specs.Grammar.{kept_forms, change_forms, set_forms, newer_forms, delete_forms}
 use Rattle.schedule_text.specs.Lines.{change_words, kept_word}
 use Rattle.schedule_text.specs.Reading.{IsFaultIn}
 use Rattle.schedule_text.specs.Refusals.{words_of}
@@ -8,11 +8,11 @@ use Rattle.schedule_text.proofs.Readings.{err_match, kept_fault, kept_words}
 use Rattle.schedule_text.proofs.change.kept_change_of.Goals as goal
 
 pub returns-in_default : goal.returns-in_default
-unfolding kept_forms change_forms set_forms delete_forms
+unfolding kept_forms change_forms set_forms newer_forms delete_forms
 returns-in_default c =
     let kept = c.in_default.ensures.0 in
     let lost = c.in_default.ensures.1 in
-    no_form c.args.line.now kept_forms (kept, (kept, (kept, (kept, (lost, (lost, (lost, (lost, tt))))))))
+    no_form c.args.line.now kept_forms (kept, (kept, (kept, (kept, (kept, (kept, (lost, (lost, (lost, (lost, (lost, (lost, tt))))))))))))
 
 pub returns-in_err-edit : goal.returns-in_err-edit
 returns-in_err-edit c =

@@ -8,7 +8,7 @@ use Rattle.schedule_text.specs.Reading.{IsFaultIn}
 use Rattle.schedule_text.specs.Refusals.{words_of}
 use Rattle.schedule_text.specs.Sites.{site_words}
 use Rattle.schedule_text.proofs.Forms.{words_fault}
-use Rattle.schedule_text.proofs.Readings.{err_match, form_fault_before, form_fault_behind, no_login, no_login_of, site_is_right, login_words, date_is}
+use Rattle.schedule_text.proofs.Readings.{err_match, form_fault_before, form_fault_behind, no_login, no_login_of, site_is_right, login_words_are, date_is}
 use Rattle.schedule_text.proofs.change.set_password.Goals as goal
 
 pub returns-in_default : goal.returns-in_default
@@ -59,7 +59,7 @@ returns c =
     let d = c.in-Some-three_words.date.now in
     let site = c.in_ok-site.ensures in
     let last = c.in_ok-secret.ensures in (
-      (site.0.0, site.0.1, site.0.2, site.0.3, site.0.4, last.0, date_is c.in_ok-secret.date last.1),
+      ((site.0.0, site.0.1, site.0.2, site.0.3, site.0.4, last.0, date_is c.in_ok-secret.date last.1), c.new.ensures),
       ap (λ (ws : List (List ℕ)). codes "set" ∷ codes "password" ∷ ws)
-          (c.in-Some.ensures ∙ ap (λ (ws : List (List ℕ)). o ∷ e ∷ v ∷ p ∷ ws) c.in-Some-three_words.ensures ∙ login_words o e v p r s d c.in_ok-site.site c.in_ok-secret.secret c.in_ok-secret.date last.1 site.1 last.2 last.3),
+          (c.in-Some.ensures ∙ ap (λ (ws : List (List ℕ)). o ∷ e ∷ v ∷ p ∷ ws) c.in-Some-three_words.ensures ∙ login_words_are o e v p r s d c.in_ok-site.site c.in_ok-secret.secret c.in_ok-secret.date last.1 site.1 last.2 last.3),
     )

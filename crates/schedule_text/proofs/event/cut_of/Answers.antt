@@ -1,7 +1,7 @@
 use Rattle.std.proofs.Common.{◌≡◌, ◌∙◌, ap, sym, refl, ℕ, Bool, List, [], ◌∷◌}
 use Rattle.std.specs.Fmt.{decimal}
 use Rattle.sync_values.specs.declared.edit.Edit.{Edit as Change}
-use Rattle.schedule_text.specs.Grammar.{Between, after_slot, change_forms, kept_forms, set_forms, delete_forms}
+use Rattle.schedule_text.specs.Grammar.{Between, after_slot, change_forms, kept_forms, set_forms, newer_forms, delete_forms}
 use Rattle.schedule_text.specs.Lines.{change_words, kept_word}
 use Rattle.schedule_text.specs.Spelling.{IsChange}
 use Rattle.schedule_text.specs.Reading.{IsFaultIn}
@@ -11,7 +11,7 @@ use Rattle.schedule_text.proofs.Readings.{err_match, fault_of_same, early_is, la
 use Rattle.schedule_text.proofs.event.cut_of.Goals as goal
 
 pub returns-in_default : goal.returns-in_default
-unfolding kept_forms change_forms set_forms delete_forms
+unfolding kept_forms change_forms set_forms newer_forms delete_forms
 returns-in_default c = single_misses (words_of c.args.line.now) (after_slot (Between 1 c.args.clients) kept_forms) c.in_default.ensures refl
 
 pub returns-in-Some-early_fault : goal.returns-in-Some-early_fault
