@@ -1,5 +1,6 @@
 pub mod WordLists
 pub mod Stepping
+pub mod LawfulRuns
 pub mod Causes
 pub mod Works
 pub mod Replaying

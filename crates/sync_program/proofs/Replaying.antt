@@ -10,6 +10,7 @@ use Rattle.sync_program.specs.Texts.{bad_schedule_line}
 use Rattle.sync_program.specs.Outside.{Reading, Writing, TellsInput}
 use Rattle.sync_program.specs.Work.{IsDetermined, HasCause, GivesOutput, GivesRefusal}
 use Rattle.sync_program.specs.Replay.{MAX_TEXT, IsReplayed, IsNoSchedule, report_of, replaying, TellsSchedule}
+use Rattle.sync_program.proofs.LawfulRuns.{runs_are_lawful}
 use Rattle.sync_program.proofs.Causes.{gives_from_cause, refuses_from_cause}
 
 -- a text that spells a schedule gives its report
@@ -19,7 +20,7 @@ tells_report left schedule tells = record {
   input = tells.input;
   told = tells.told;
   within = tells.within;
-  holds = record { schedule = schedule; spells = tells.holds; is_report = refl };
+  holds = record { schedule = schedule; spells = tells.holds; is_report = refl; lawful = runs_are_lawful schedule };
 }
 
 -- a text that is refused has the line that says so

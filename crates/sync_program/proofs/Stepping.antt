@@ -6,7 +6,7 @@ use Rattle.std.proofs.lemmas.Bool.{false≢true}
 use Rattle.std.specs.Prelude.{IsTrue}
 use Rattle.std.specs.List.{AllByRecursion}
 use Rattle.sync_values.specs.declared.edit.Edit.{Edit as Change}
-use Rattle.sync_values.specs.declared.edit.Edit.TheVariants.{SetPreference, DeletePreference, SetPassword, DeletePassword, SetNigori}
+use Rattle.sync_values.specs.declared.edit.Edit.TheVariants.{SetPreference, NewerPreference, DeletePreference, SetPassword, NewerPassword, DeletePassword, SetNigori}
 use Rattle.sync_model.specs.declared.event.Event.{Event}
 use Rattle.sync_model.specs.declared.event.Event.TheVariants.{Edit, Cut, Turn, Gather, Post, Ask, Offer, Lose, Crash, Deliver, Answer, SetPass, GivePass}
 use Rattle.sync_model.specs.declared.event.Schedule.{Schedule}
@@ -15,6 +15,7 @@ use Rattle.sync_model.specs.Edits.{edit_kind}
 use Rattle.run_setting.specs.Hashed.{hashed}
 use Rattle.sync_model.specs.Worlds.{World, stepped, run}
 use Rattle.schedule_text.specs.Spelling.{IsUpTo, IsEvent, IsBuilt, IsSchedule, IsBuiltSchedule, is_built_change}
+use Rattle.schedule_text.proofs.CanonicalEdits.{change_is_canonical}
 use Rattle.replay_world.specs.Events.{IsNumber, CanStep}
 
 -- a number of a client in a schedule is one of the world's
@@ -24,14 +25,17 @@ number_of clients number within = record { from_one = within.0; within = within.
 -- a change that this stage knows is of a preference
 preference_edit : (change : Change) → IsTrue (is_built_change change) → edit_kind change ≡ Preference
 preference_edit (SetPreference preference) built = refl
+preference_edit (NewerPreference preference) built = refl
 preference_edit (DeletePreference name) built = refl
 preference_edit (SetPassword password) built = absurd (false≢true built)
+preference_edit (NewerPassword password) built = absurd (false≢true built)
 preference_edit (DeletePassword origin user_element user_value pass_element realm) built = absurd (false≢true built)
 preference_edit (SetNigori keys) built = absurd (false≢true built)
 
 -- an event that a schedule of this stage may have is one that a world can step
 can_step : (clients passes : ℕ) (event : Event) → IsEvent clients passes event → IsBuilt event → CanStep clients event
-can_step clients passes (Edit client change) known built = (number_of clients client known.0, preference_edit change built)
+can_step clients passes (Edit client change) known built =
+    (number_of clients client known.0, preference_edit change built, change_is_canonical change known.1)
 can_step clients passes (Turn client kind) known built = number_of clients client known
 can_step clients passes (Gather client kind) known built = number_of clients client known
 can_step clients passes (Post client kind) known built = number_of clients client known

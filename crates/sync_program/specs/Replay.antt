@@ -1,6 +1,7 @@
 -- What a replay does with a text.
 use Rattle.std.specs.Prelude.{◌≡◌, ℕ, List, Option}
 use Rattle.sync_model.specs.declared.event.Schedule.{Schedule}
+use Rattle.sync_model.specs.Lawful.{IsLawful}
 use Rattle.sync_model.specs.Worlds.{world_of}
 use Rattle.run_setting.specs.Hashed.{hashed}
 use Rattle.replay_world.specs.Reports.{full_report}
@@ -20,11 +21,12 @@ MAX_TEXT = 1048576
 unfoldable pub report_of : Schedule → List ℕ
 report_of schedule = full_report (world_of hashed schedule)
 
--- a text spells a schedule, and this is the report of its world
+-- a text spells a schedule, this is the report of its world, and that is lawful
 pub record IsReplayed (text output : List ℕ) : Type 0 where
   pub schedule : Schedule
   pub spells : Spells text schedule
   pub is_report : output ≡ report_of schedule
+  pub lawful : IsLawful hashed schedule
 
 -- a text is refused at a line for a reason, and this line says so
 pub record IsNoSchedule (text line : List ℕ) : Type 0 where

@@ -1,11 +1,12 @@
 //! Replaying a schedule: read it, step its world, and write the world's report.
 
-ghost use Rattle.std.specs.Prelude.{◌≡◌, ◌+◌, ℕ, IfOk, MatchResult};
+ghost use Rattle.std.specs.Prelude.{◌≡◌, ◌+◌, ℕ, IfOk, OnOk, MatchResult};
 ghost use Rattle.outer_edge.specs.Faults.{NeverFalls};
 ghost use Rattle.outer_edge.specs.Source.{GaveUpTo};
 ghost use Rattle.sync_model.specs.declared.event.Schedule.{Schedule as Plan};
 ghost use Rattle.run_setting.specs.Hashed.{hashed};
 ghost use Rattle.sync_model.specs.History.{IsBased};
+ghost use Rattle.sync_model.specs.Lawful.{IsLawful};
 ghost use Rattle.sync_model.specs.Worlds.{world_of};
 ghost use Rattle.schedule_text.specs.declared.fault.LineReason.{LineReason as Reason};
 ghost use Rattle.schedule_text.specs.Spelling.{IsSchedule, IsBuiltSchedule, Spells};
@@ -104,11 +105,12 @@ fn read_schedule<S: Source>(alloc: Global, input: &mut S) -> Result<Schedule, Re
 }
 
 // The report of the world that a schedule makes.
-#[tactic(auto, unfolding(crate::specs::Replay::report_of))]
+#[tactic(auto, unfolding(crate::specs::Replay::report_of), using(crate::proofs::LawfulRuns::runs_are_lawful))]
 fn report(alloc: Global, schedule: &Schedule) -> Result<Octets, NoMemory>
     requires schedule { IsSchedule schedule.now }
     requires built { IsBuiltSchedule schedule.now }
-    ensures { IfOk result (λ text. text ≡ report_of schedule.now) }
+    ensures report { IfOk result (λ text. text ≡ report_of schedule.now) }
+    ensures lawful { OnOk result (IsLawful hashed schedule.now) }
 {
     world(alloc, schedule)?.report()
 }
