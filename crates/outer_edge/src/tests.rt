@@ -91,3 +91,27 @@ fn words_stay_in_order(rt: HostRuntime) -> Result<(), Fail> {
     assert!(rt; words.get(2).is_none());
     Ok(())
 }
+
+#[test]
+fn shows_each_fault(rt: HostRuntime) -> Result<(), Fail> {
+    let alloc = rt.alloc();
+    let ends = [
+        (ReadEnd::ReadFault, "the source failed"),
+        (
+            ReadEnd::TooBig { count: 6 },
+            "6 bytes came, which is too many",
+        ),
+        (ReadEnd::NoMemory, "memory ran out"),
+    ];
+    for (end, wanted) in ends {
+        let text = format!(in alloc; "{end}")?;
+        assert_eq!(rt; text.as_str(), wanted);
+    }
+    let fault = format!(in alloc; "{}", WriteFault { written: 7 })?;
+    assert_eq!(rt; fault.as_str(), "the sink failed after 7 bytes");
+    let failed = format!(in alloc; "{Failed}")?;
+    assert_eq!(rt; failed.as_str(), "a call of the outside failed");
+    let memory = format!(in alloc; "{NoMemory}")?;
+    assert_eq!(rt; memory.as_str(), "memory ran out");
+    Ok(())
+}
