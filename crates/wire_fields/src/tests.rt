@@ -22,6 +22,16 @@ fn octets_are_their_bytes(rt: HostRuntime) -> Result<(), Fail> {
     Ok(())
 }
 
+// A mebibyte is no want of memory.
+#[test]
+fn octets_may_have_a_mebibyte(rt: HostRuntime) -> Result<(), Fail> {
+    let bytes = vec![in rt.alloc(); 7; 0x10_0000]?;
+    let octets = Octets::from_slice(rt.alloc(), &bytes)?;
+    assert_eq!(rt; octets.len(), 0x10_0000);
+    assert!(rt; octets.copy()? == octets);
+    Ok(())
+}
+
 #[test]
 fn octets_are_ordered_as_words_are(rt: HostRuntime) -> Result<(), Fail> {
     let alloc = rt.alloc();
@@ -179,6 +189,21 @@ fn a_message_may_be_cut_at_each_place(rt: HostRuntime) -> Result<(), Fail> {
         };
         assert_eq!(rt; whole.as_slice(), message.as_slice());
     }
+    Ok(())
+}
+
+// Eight million fields, each of two bytes: a walk from the start at each piece would take hours.
+#[test]
+fn a_long_message_in_short_pieces_takes_no_longer(rt: HostRuntime) -> Result<(), Fail> {
+    let piece = b"\x08\x01".repeat(rt.alloc(), 512)?;
+    let mut pieces = Pieces::new(rt.alloc());
+    for _ in 0..16_384 {
+        pieces.feed(&piece)?;
+    }
+    let Ok(whole) = pieces.finish() else {
+        return Err("the bytes are fields".into());
+    };
+    assert_eq!(rt; whole.len(), 0x100_0000);
     Ok(())
 }
 
