@@ -16,6 +16,12 @@ kind_of_number number =
     if number == 47745 then Some Nigori else if number == 37702 then Some Preference
     else if number == 45873 then Some Password else None
 
+-- the place of a type in the order in which the engine takes them: the keys that lock the others first
+abbrev pub kind_place : Kind → ℕ
+kind_place Nigori = 0
+kind_place Preference = 1
+kind_place Password = 2
+
 -- the bytes of an empty specifics of the type: the type's field without content
 abbrev pub specifics_prefix : Kind → List ℕ
 specifics_prefix kind = bytes_field (kind_number kind) []

@@ -62,7 +62,7 @@ fn hash_bytes(text: &[u8]) -> Option<[u8; 20]>
 
 // An empty specifics of the type, as its bytes.
 #[tactic(auto, unfolding(wire_format::specs::Spellings::least_groups))]
-fn specifics_prefix(kind: Kind) -> [u8; 4]
+pub(crate) fn specifics_prefix(kind: Kind) -> [u8; 4]
     ensures { result ≡ specifics_prefix kind }
 {
     match kind {

@@ -1,15 +1,17 @@
 //! The types of entities, and the tags and hashes by which two devices know that they speak of the same one.
 #![tactic(auto)]
 
-ghost use Rattle.std.specs.Prelude.{◌≡◌, ◌↔◌, ◌≢◌, Some, IfNone};
+ghost use Rattle.std.specs.Prelude.{◌≡◌, ◌↔◌, ◌≢◌, ◌<◌, Some, IfNone, IsTrue};
 ghost use Rattle.client_tags.specs.declared.Kind.{Kind};
-ghost use Rattle.client_tags.specs.Kinds.{kind_number, kind_of_number};
+ghost use Rattle.client_tags.specs.Kinds.{kind_number, kind_of_number, kind_place};
 
 mod hash;
+mod login;
 mod memory;
 mod tag;
 
 pub use hash::{TagHash, tag_hash};
+pub use login::login_hash;
 pub use memory::NoMemory;
 pub use tag::{nigori_tag, password_tag, tags_tell_logins};
 
@@ -49,5 +51,11 @@ impl Kind {
             45873 => Some(Kind::Password),
             _ => None,
         }
+    }
+    /// Whether the engine takes this type before another.
+    pub fn is_before(&self, other: &Kind) -> bool
+        ensures { IsTrue result ↔ (kind_place self.now < kind_place other.now) }
+    {
+        self < other
     }
 }

@@ -56,13 +56,13 @@ fn push_escaped(tag: &mut Vec<u8>, text: &[u8]) -> Result<(), NoMemory>
     Ok(())
 }
 
-fn is_unreserved(byte: u8) -> bool
+pub(crate) fn is_unreserved(byte: u8) -> bool
     ensures { result ≡ is_unreserved byte }
 {
     byte.is_ascii_alphanumeric() || matches!(byte, b'-' | b'.' | b'_' | b'~')
 }
 
-fn percent_escape(byte: u8) -> [u8; 3]
+pub(crate) fn percent_escape(byte: u8) -> [u8; 3]
     ensures { result ≡ percent_escape byte }
 {
     [b'%', hex_digit(byte / 16), hex_digit(byte % 16)]

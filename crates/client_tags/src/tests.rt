@@ -18,6 +18,17 @@ fn kinds_have_their_numbers(rt: HostRuntime) {
 }
 
 #[test]
+fn the_keys_are_taken_first(rt: HostRuntime) {
+    assert!(rt; Kind::Nigori.is_before(&Kind::Preference));
+    assert!(rt; Kind::Preference.is_before(&Kind::Password));
+    assert!(rt; Kind::Nigori.is_before(&Kind::Password));
+    for kind in [Kind::Nigori, Kind::Preference, Kind::Password] {
+        assert!(rt; !kind.is_before(&kind));
+    }
+    assert!(rt; !Kind::Password.is_before(&Kind::Nigori));
+}
+
+#[test]
 fn other_numbers_are_of_no_kind(rt: HostRuntime) {
     for number in [0, 1, 37701, 37703, 45872, 45874, 47744, 47746, u64::MAX] {
         assert_eq!(rt; Kind::from_number(number), None, "at {number}");
@@ -38,6 +49,15 @@ fn a_password_tag_is_escaped(rt: HostRuntime) -> Result<(), Fail> {
     );
     tags_tell_logins();
     Ok(())
+}
+
+#[test]
+fn a_login_is_hashed_as_its_tag(rt: HostRuntime) {
+    let site = b"https://a.example/";
+    let hash = login_hash(site, b"u", b"bob", b"p", site);
+    assert_eq!(rt; hash.text(), *b"PsDFe4mD2AyXaMxLe8xOfe4kq9Q=");
+    let of_no_texts = login_hash(b"", b"", b"", b"", b"");
+    assert_eq!(rt; of_no_texts.text(), *b"UczXQr7uvsFbYJHfx4Wvc2SjRaU=");
 }
 
 #[test]
