@@ -86,7 +86,7 @@ verdict_of_cipher key bytes iv cipher tag parts right r verdict =
     over_parts (Err (BadLength len)) right h = absurd h
     over_parts (Err (BadTag found computed)) right h = absurd h
     over_parts (Err BadPadding) right h = (right, h)
-    over_parts (Err NoMemory) right h = h
+    over_parts (Err NoMemory) right h = (h.0, (right, h.1))
 
 -- a tag that is another one than that of the cipher text is a bad one
 pub bad_tag_of_parts : (key : NigoriKey) (bytes iv cipher tag computed : List ℕ) → AreParts bytes iv cipher tag → computed ≡ tag_of key cipher

@@ -45,6 +45,10 @@ abbrev pub HoldsText : NigoriKey → List ℕ → List ℕ → Type 0
 HoldsText key text bytes =
     HasRightTag key bytes × IsCbcText (key_expansion key.enc) (iv_in bytes) (cipher_in bytes) text
 
+-- the tag is right, and the cipher text has a text
+abbrev pub HoldsSomeText : NigoriKey → List ℕ → Type 0
+HoldsSomeText key bytes = (text : List ℕ) × HoldsText key text bytes
+
 -- want of memory apart, the result is this answer exactly where that holds
 abbrev pub AnswersExactly : Result (List ℕ) UnsealFault → Result (List ℕ) UnsealFault → Type 0 → Type 0
 AnswersExactly result answer Holds = result ≢ Err NoMemory → (result ≡ answer) ↔ Holds
