@@ -1,9 +1,9 @@
 ghost use Rattle.std.specs.Prelude.{◌≡◌, ◌==◌, ◌↔◌, ℕ, List, length, IsTrue, Ok, Err, IfOk, OnOk, OnErr};
 ghost use Rattle.nigori.specs.Sealing.{key_name};
 ghost use Rattle.key_bag.specs.Bags.{empty_bag, key_named, names_of, HasName, with_key, with_default, IsBag};
-ghost use Rattle.key_bag.specs.Texts.{AnswersExactly, IsLacked};
+ghost use Rattle.key_bag.specs.Texts.{IsLacked};
 
-use crate::fault::DefaultFault;
+use crate::fault::NoKey;
 use crate::named::{NamedKey, append, key_named, named_by_itself, names};
 use key_derivation::NigoriKey;
 use std::alloc::Global;
@@ -94,20 +94,15 @@ impl KeyBag {
         Ok(Added::New)
     }
 
-    /// Makes the key of this name the default one. It refuses a name that no key of the bag has, and takes time
-    /// linear in the number of the keys.
-    pub fn set_default(&mut self, name: &Octets) -> Result<(), DefaultFault>
-        ensures no_key { (other : List ℕ) → AnswersExactly DefaultFault.NoMemory
-            result (Err (DefaultFault.NoKey other)) (IsLacked self.old name.now other) }
-        ensures ok { OnOk result (self.new ≡ with_default self.old name.now) }
+    /// Makes the key of this name the default one. It refuses a name that no key of the bag has, and hands it back.
+    /// It takes no memory, and time linear in the number of the keys.
+    pub fn set_default(&mut self, name: Octets) -> Result<(), NoKey>
+        ensures no_key { (other : List ℕ) → (result ≡ Err (record { name = other })) ↔ IsLacked self.old name other }
+        ensures ok { OnOk result (self.new ≡ with_default self.old name) }
         ensures err { OnErr result (self.new ≡ self.old) }
     {
-        let is_present = self.has(name.as_slice());
-        let Ok(name) = name.copy() else {
-            return Err(DefaultFault::NoMemory);
-        };
-        if !is_present {
-            return Err(DefaultFault::NoKey { name });
+        if !self.has(name.as_slice()) {
+            return Err(NoKey { name });
         }
         self.default = Some(name);
         Ok(())

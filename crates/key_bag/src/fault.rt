@@ -67,21 +67,16 @@ impl From<NoMemory> for SealFault {
     }
 }
 
-/// Why a key did not become the default.
+/// The bag has no key of this name, and so none became the default.
 #[derive(Debug, PartialEq, Eq, Drop)]
-pub enum DefaultFault {
-    /// The bag has no key of this name.
-    NoKey { name: Octets },
-    NoMemory,
+pub struct NoKey {
+    pub name: Octets,
 }
 
-impl fmt::Display for DefaultFault {
+impl fmt::Display for NoKey {
     fn fmt<W: fmt::Write>(&self, f: &mut fmt::Formatter<W>) -> fmt::Result {
-        match self {
-            DefaultFault::NoKey { .. } => f.write_str("no key of this name"),
-            DefaultFault::NoMemory => f.write_str("no memory"),
-        }
+        f.write_str("no key of this name")
     }
 }
 
-impl Error for DefaultFault {}
+impl Error for NoKey {}

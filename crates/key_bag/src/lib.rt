@@ -9,7 +9,7 @@ mod named;
 mod texts;
 
 pub use bag::{Added, KeyBag};
-pub use fault::{AnyFault, DefaultFault, SealFault};
+pub use fault::{AnyFault, NoKey, SealFault};
 pub use laws::{packed_keys_are_unpacked, sealed_texts_are_unsealed};
 
 #[cfg(test)]

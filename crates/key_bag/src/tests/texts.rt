@@ -28,7 +28,9 @@ fn texts_are_sealed_by_default(rt: HostRuntime) -> Result<(), Fail> {
         let key = key_of(&parts);
         bag.add(&key)?;
         let name = key_name(rt.alloc(), &key)?;
-        bag.set_default(&name)?;
+        let Ok(()) = bag.set_default(name.copy()?) else {
+            return Err("the key was added".into());
+        };
         let sealed = bag.seal_default(text, &iv.to_be_bytes())?;
         assert_eq!(rt; sealed.key_name.as_slice(), name.as_slice());
         assert_eq!(rt; sealed.blob.as_slice(), blob);
