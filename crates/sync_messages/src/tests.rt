@@ -1,4 +1,5 @@
 mod entities;
+mod entity_faults;
 mod laws;
 mod replies;
 mod reply_faults;
