@@ -1,7 +1,5 @@
 -- An acknowledgement sets the state of its key, or is ignored.
-use Rattle.std.proofs.Common.{◌≡◌, ℕ, ◌≤◌, arith, Bool, true, false, List, [], Option, refl, ap, ◌∙◌}
-use Rattle.std.specs.Prelude.{nat_le, nat_lt, ◌||◌}
-use Rattle.std.proofs.lemmas.Bool.Decides.{nat_tests}
+use Rattle.std.proofs.Common.{◌≡◌, ℕ, Bool, true, false, List, [], refl, ap, ◌∙◌}
 use Rattle.entity_tracker.specs.Tracked.{Tracked}
 use Rattle.sync_model.specs.declared.fate.Note.{Note}
 use Rattle.sync_model.specs.declared.message.Ack.{Ack}

@@ -1,6 +1,6 @@
 -- What a type offers is of the type, and each offer is of its key's last edit.
 use Rattle.std.proofs.Common.{◌≡◌, ℕ, zero, suc, Bool, true, false, cond, List, [], ◌∷◌, ◌++◌, take, Option, Some, None, sym, ap, subst}
-use Rattle.std.specs.Prelude.{nat_le, unwrap_or, IfSome, Result, Ok, Err, IfOk}
+use Rattle.std.specs.Prelude.{nat_le, unwrap_or, IfSome}
 use Rattle.std.specs.List.{AllByRecursion}
 use Rattle.client_tags.specs.declared.Kind.{Kind}
 use Rattle.sync_model.specs.declared.message.Offer.{Offer}

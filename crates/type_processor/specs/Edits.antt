@@ -1,7 +1,6 @@
 -- What an edit makes of a type, and why it is refused.
-use Rattle.std.specs.Prelude.{◌≡◌, ℕ, ◌+◌, ◌-◌, ◌^◌, min, Bool, not, IsTrue, List, Option, Some, None}
+use Rattle.std.specs.Prelude.{◌≡◌, ℕ, ◌+◌, ◌-◌, ◌^◌, min, List, Option, Some, None}
 use Rattle.client_tags.specs.Hashes.{tag_hash}
-use Rattle.client_tags.specs.declared.Kind.TheVariants.{Password}
 use Rattle.sync_values.specs.declared.edit.Edit.{Edit}
 use Rattle.sync_values.specs.declared.value.Value.{Value}
 use Rattle.sync_model.specs.declared.refusal.EditRefusal.{EditRefusal}
@@ -9,7 +8,6 @@ use Rattle.sync_model.specs.declared.refusal.EditRefusal.TheVariants.{TooLong, F
 use Rattle.sync_model.specs.Changes.{own_at, edit_refusal_at}
 use Rattle.sync_model.specs.Edits.{edit_kind, edit_tag, edit_value, edit_length}
 use Rattle.sync_model.specs.Sides.{state_at, side_edited}
-use Rattle.sync_model.specs.Values.{same_kind}
 use Rattle.type_processor.specs.declared.answers.EditFault.{EditFault}
 use Rattle.type_processor.specs.declared.answers.EditFault.TheVariants.{TooLong as FoundLong, Full as FoundFull, NoMemory}
 use Rattle.type_processor.specs.declared.answers.Edited.{Edited}
@@ -43,18 +41,22 @@ edit_told processed edit = record {
 abbrev pub told_length : ℕ → ℕ
 told_length len = min len (2 ^ 64 - 1)
 
--- the key of an edit is found without memory: only the tag of a login is put together
-abbrev pub is_found_at_once : Edit → Bool
-is_found_at_once edit = not (same_kind (edit_kind edit) Password)
+-- a fault tells why an edit is refused; want of memory is no such cause
+abbrev pub IsRefusalOf : Option EditRefusal → ℕ → EditFault → Type 0
+IsRefusalOf refusal len (FoundLong told) = (refusal ≡ Some (TooLong len)) × (told ≡ told_length len)
+IsRefusalOf refusal len (FoundFull count) = refusal ≡ Some (Full count)
+IsRefusalOf refusal len NoMemory = ⊥
 
--- A fault is the one that the cause of refusal tells. Memory may be wanting for an edit that is not refused, or to find its
--- key.
-abbrev pub IsFaultOf : Bool → Option EditRefusal → ℕ → EditFault → Type 0
-IsFaultOf found refusal len (FoundLong told) = (refusal ≡ Some (TooLong len)) × (told ≡ told_length len)
-IsFaultOf found refusal len (FoundFull count) = refusal ≡ Some (Full count)
-IsFaultOf found refusal len NoMemory = IsTrue found → refusal ≡ None
+-- a fault tells why an edit is refused, or that memory was wanting for one that is not
+abbrev pub IsFaultOf : Option EditRefusal → ℕ → EditFault → Type 0
+IsFaultOf refusal len (FoundLong told) = IsRefusalOf refusal len (FoundLong told)
+IsFaultOf refusal len (FoundFull count) = IsRefusalOf refusal len (FoundFull count)
+IsFaultOf refusal len NoMemory = refusal ≡ None
+
+-- why an edit is refused now
+abbrev pub IsRefusalAt : {Rules : Type 0} → Processed Rules → Edit → EditFault → Type 0
+IsRefusalAt processed edit fault = IsRefusalOf (refusal_of processed edit) (edit_length (own_before processed edit) edit) fault
 
 -- the fault of an edit
 abbrev pub IsFaultAt : {Rules : Type 0} → Processed Rules → Edit → EditFault → Type 0
-IsFaultAt processed edit fault =
-    IsFaultOf (is_found_at_once edit) (refusal_of processed edit) (edit_length (own_before processed edit) edit) fault
+IsFaultAt processed edit fault = IsFaultOf (refusal_of processed edit) (edit_length (own_before processed edit) edit) fault

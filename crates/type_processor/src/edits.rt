@@ -1,49 +1,43 @@
 //! What an edit says: its key, how long its texts are, and what it makes of the key.
-ghost use Rattle.std.specs.Prelude.{◌≡◌, ◌+◌, ℕ, false, length, IfOk, OnErr};
+ghost use Rattle.std.specs.Prelude.{◌≡◌, ◌+◌, ℕ, length, IfOk};
 ghost use Rattle.client_tags.specs.Hashes.{tag_hash as hash_of_tag, IsHash};
 ghost use Rattle.client_tags.specs.Tags.{password_tag as tag_of_login};
 ghost use Rattle.client_tags.specs.declared.Kind.TheVariants.{Preference as preference_kind, Password as password_kind};
 ghost use Rattle.sync_values.specs.declared.value.Value.TheVariants.{Preference as preference_value, Password as login_value};
 ghost use Rattle.sync_model.specs.Edits.{edit_value, edit_length, login_tag, preference_length, login_length};
 ghost use Rattle.sync_model.specs.Values.{extra_in};
-ghost use Rattle.type_processor.specs.Edits.{edit_hash, is_found_at_once, told_length};
+ghost use Rattle.type_processor.specs.Edits.{edit_hash, told_length};
 
-use client_tags::{TagHash, nigori_tag, password_tag, tag_hash};
+use client_tags::{TagHash, login_hash, nigori_tag, tag_hash};
 use std::alloc::Global;
 use sync_model::{Edit, Kind, Value};
 use sync_values::{Password, Preference};
 use wire_fields::{NoMemory, Octets};
 
 // The hash of the login that these five texts name.
-fn login_hash(
-    alloc: Global,
+fn hash_of_texts(
     origin: &Octets,
     user_element: &Octets,
     user_value: &Octets,
     pass_element: &Octets,
     realm: &Octets,
-) -> Result<TagHash, NoMemory>
-    ensures { IfOk result (λ hash. hash.bytes
-        ≡ hash_of_tag password_kind (tag_of_login origin.now user_element.now user_value.now pass_element.now realm.now)) }
+) -> TagHash
+    ensures { result.bytes
+        ≡ hash_of_tag password_kind (tag_of_login origin.now user_element.now user_value.now pass_element.now realm.now) }
 {
-    let Ok(tag) = password_tag(
-        alloc,
+    login_hash(
         origin.as_slice(),
         user_element.as_slice(),
         user_value.as_slice(),
         pass_element.as_slice(),
         realm.as_slice(),
-    ) else {
-        return Err(NoMemory);
-    };
-    Ok(tag_hash(Kind::Password, tag.as_slice()))
+    )
 }
 
-fn hash_of_login(alloc: Global, login: &Password) -> Result<TagHash, NoMemory>
-    ensures { IfOk result (λ hash. hash.bytes ≡ hash_of_tag password_kind (login_tag login.now)) }
+fn hash_of_login(login: &Password) -> TagHash
+    ensures { result.bytes ≡ hash_of_tag password_kind (login_tag login.now) }
 {
-    login_hash(
-        alloc,
+    hash_of_texts(
         &login.origin,
         &login.user_element,
         &login.user_value,
@@ -59,24 +53,23 @@ fn preference_hash(name: &Octets) -> TagHash
 }
 
 /// The hash of the key that an edit changes, in time linear in its texts.
-pub(crate) fn edit_hash(alloc: Global, edit: &Edit) -> Result<TagHash, NoMemory>
-    ensures hash { IfOk result (λ hash. hash.bytes ≡ edit_hash edit.now) }
-    ensures at_once { OnErr result (is_found_at_once edit.now ≡ false) }
+pub(crate) fn edit_hash(edit: &Edit) -> TagHash
+    ensures { result.bytes ≡ edit_hash edit.now }
 {
     match edit {
-        Edit::SetPreference(preference) => Ok(preference_hash(&preference.name)),
-        Edit::NewerPreference(preference) => Ok(preference_hash(&preference.name)),
-        Edit::DeletePreference(name) => Ok(preference_hash(name)),
-        Edit::SetPassword(login) => hash_of_login(alloc, login),
-        Edit::NewerPassword(login) => hash_of_login(alloc, login),
+        Edit::SetPreference(preference) => preference_hash(&preference.name),
+        Edit::NewerPreference(preference) => preference_hash(&preference.name),
+        Edit::DeletePreference(name) => preference_hash(name),
+        Edit::SetPassword(login) => hash_of_login(login),
+        Edit::NewerPassword(login) => hash_of_login(login),
         Edit::DeletePassword {
             origin,
             user_element,
             user_value,
             pass_element,
             realm,
-        } => login_hash(alloc, origin, user_element, user_value, pass_element, realm),
-        Edit::SetNigori(_) => Ok(tag_hash(Kind::Nigori, nigori_tag())),
+        } => hash_of_texts(origin, user_element, user_value, pass_element, realm),
+        Edit::SetNigori(_) => tag_hash(Kind::Nigori, nigori_tag()),
     }
 }
 

@@ -8,7 +8,7 @@ ghost use Rattle.sync_model.specs.Edits.{edit_kind, edit_value, edit_length};
 ghost use Rattle.sync_model.specs.Offers.{offers_of, reseal_count};
 ghost use Rattle.client_tags.specs.Hashes.{IsHash};
 ghost use Rattle.sync_model.specs.Sides.{due_count, is_full, side_edited, side_offered, state_at};
-ghost use Rattle.type_processor.specs.Edits.{edit_hash as hash_of_edit, refusal_of, edited_by, edit_told, told_length, IsFaultAt};
+ghost use Rattle.type_processor.specs.Edits.{edit_hash as hash_of_edit, refusal_of, edited_by, edit_told, told_length, IsRefusalAt, IsFaultAt};
 ghost use Rattle.type_processor.specs.Fits.{IsTaskOf, IsOfferOf};
 ghost use Rattle.type_processor.specs.Keyed.{found_at, key_of, key_at};
 ghost use Rattle.type_processor.specs.Processed.{side_of, with_side};
@@ -107,11 +107,9 @@ impl<R: TypeRules> Processor<R> {
         ensures hash { IfOk result (λ hash. hash.bytes ≡ hash_of_edit edit.now) }
         ensures is_hash { IfOk result (λ hash. IsHash hash.bytes) }
         ensures may { OnOk result (refusal_of self.now edit.now ≡ None) }
-        ensures fault { IfErr result (IsFaultAt self.now edit.now) }
+        ensures refused { IfErr result (IsRefusalAt self.now edit.now) }
     {
-        let Ok(hash) = edit_hash(self.alloc, edit) else {
-            return Err(EditFault::NoMemory);
-        };
+        let hash = edit_hash(edit);
         are_hash_bytes(&hash.bytes);
         let len = self.length_at(&hash, edit);
         if len > MAX_TEXT {
@@ -152,7 +150,7 @@ impl<R: TypeRules> Processor<R> {
     /// time in the length of the edit's texts and of the key's values, and the logarithm of the number of keys.
     ///
     /// It refuses texts that are too long, and then a new key where no more are held; both whether or not there is
-    /// memory, but for an edit of a login, whose key takes memory to find.
+    /// memory.
     pub fn edit(&mut self, edit: Edit) -> Result<Edited, EditFault>
         requires { edit_kind edit ≡ self.old.kind }
         ensures taken { OnOk result (refusal_of self.old edit ≡ None) }
@@ -168,12 +166,12 @@ impl<R: TypeRules> Processor<R> {
         }
     }
 
-    /// Tells whether `edit` would refuse this edit now for its texts' length or for want of room. It takes time in the
-    /// length of the edit's texts and the logarithm of the number of keys.
+    /// Tells whether `edit` would refuse this edit now for its texts' length or for want of room. It takes no memory, and
+    /// time in the length of the edit's texts and the logarithm of the number of keys.
     pub fn may_edit(&self, edit: &Edit) -> Result<(), EditFault>
         requires { edit_kind edit.now ≡ self.now.kind }
         ensures may { OnOk result (refusal_of self.now edit.now ≡ None) }
-        ensures fault { IfErr result (IsFaultAt self.now edit.now) }
+        ensures refused { IfErr result (IsRefusalAt self.now edit.now) }
     {
         self.room_for(edit)?;
         Ok(())
