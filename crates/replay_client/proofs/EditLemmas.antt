@@ -1,6 +1,7 @@
 -- What a user's edit of a preference makes of a client.
-use Rattle.std.proofs.Common.{◌≡◌, ℕ, ◌+◌, Bool, true, false, cond, List, ◌++◌, map, Option, Some, None, refl, sym, ap, ◌∙◌}
-use Rattle.std.specs.Prelude.{is_some}
+use Rattle.std.proofs.Common.{◌≡◌, ℕ, Bool, true, false, cond, List, ◌++◌, map, Option, Some, None, Result, Ok, Err, refl, sym, ap, ◌∙◌}
+use Rattle.std.specs.Prelude.{is_some, is_err, IsSome, IfErr, OnOk}
+use Rattle.std.proofs.lemmas.Bool.{false≢true}
 use Rattle.client_tags.specs.declared.Kind.{Kind}
 use Rattle.client_tags.specs.declared.Kind.TheVariants.{Nigori, Preference}
 use Rattle.conflict_rules.specs.declared.rules.Preferences.{Preferences}
@@ -10,19 +11,18 @@ use Rattle.sync_model.specs.declared.event.EventOutcome.TheVariants.{Void, Edite
 use Rattle.sync_model.specs.declared.fate.Settlement.{Settlement}
 use Rattle.sync_model.specs.declared.refusal.EditRefusal.{EditRefusal}
 use Rattle.sync_model.specs.Changes.{edit_refusal_at, edit_refusal, follows, edit_effect_at, edit_taken, edit_effect, change_effect}
-use Rattle.sync_model.specs.Clients.{Client, Effect, side_of}
+use Rattle.sync_model.specs.Clients.{Effect, side_of}
 use Rattle.sync_model.specs.Edits.{edit_kind, edit_length}
 use Rattle.sync_model.specs.Values.{same_kind}
 use Rattle.sync_model.specs.Worlds.{settlement_of}
 use Rattle.type_processor.specs.declared.answers.EditFault.{EditFault}
 use Rattle.type_processor.specs.declared.answers.EditFault.TheVariants as faults
 use Rattle.type_processor.specs.declared.answers.Edited.{Edited}
-use Rattle.type_processor.specs.Edits.{edit_hash, own_before, is_found_at_once, refusal_of, edited_by, edit_told, IsFaultOf, IsFaultAt}
+use Rattle.type_processor.specs.Edits.{edit_hash, own_before, refusal_of, edited_by, edit_told, IsRefusalOf, IsRefusalAt}
 use Rattle.type_processor.specs.Processed.{Processed}
 use Rattle.replay_client.specs.declared.client.Client.TheInside.{Inside}
 use Rattle.replay_client.specs.Clients.{client_of}
 use Rattle.replay_client.specs.Happenings.{Happens}
-use Rattle.replay_client.specs.Refusals.{IsRefusal}
 use Rattle.replay_client.proofs.Effects.{voided, made, nothing, happens}
 
 -- a client with another processor of preferences
@@ -66,20 +66,37 @@ edit_done inside number edit copy edited new before settled is same none is_new 
     (ap (λ processor. client_of (with_processor inside processor)) (is_new ∙ ap (edited_by inside.preference.processor) same))
     (is_settled ∙ ap (λ (told : Edited). before ++ map (settlement_of number Preference) (follows told.followed told.number)) (is_edited ∙ ap (edit_told inside.preference.processor) same))
 
-is_refused : (found : Bool) (refusal : Option EditRefusal) (len : ℕ) (fault : EditFault) → IsRefusal fault → IsFaultOf found refusal len fault → is_some refusal ≡ true
-is_refused found refusal len (faults.TooLong told) refused is = ap is_some is.0
-is_refused found refusal len (faults.Full count) refused is = ap is_some is
-is_refused found refusal len faults.NoMemory refused is = absurd refused
+-- an edit that is not refused has an effect
+pub edit_has_effect : (inside : Inside) (number : ℕ) (edit : Edit) → edit_kind edit ≡ Preference → refusal_of inside.preference.processor edit ≡ None
+    → IsSome (change_effect hashed number edit (client_of inside))
+edit_has_effect inside number edit is none = ap is_some (is_change inside number edit is ∙ is_taken inside number edit is none)
+
+is_refused : (refusal : Option EditRefusal) (len : ℕ) (fault : EditFault) → IsRefusalOf refusal len fault → is_some refusal ≡ true
+is_refused refusal len (faults.TooLong told) is = ap is_some is.0
+is_refused refusal len (faults.Full count) is = ap is_some is
+is_refused refusal len faults.NoMemory is = absurd is
 
 -- an edit that the processor refuses
-pub edit_void : (inside : Inside) (number : ℕ) (edit copy : Edit) (fault : EditFault) (new : Processed Preferences) (before settled : List Settlement) → edit_kind edit ≡ Preference → copy ≡ edit
-    → IsRefusal fault → IsFaultAt inside.preference.processor copy fault → new ≡ inside.preference.processor → settled ≡ before
-    → Happens number (change_effect hashed number edit (client_of inside)) Void (client_of inside) (client_of (with_processor inside new)) before settled
+pub edit_void : (inside : Inside) (number : ℕ) (edit : Edit) (fault : EditFault) (settled : List Settlement) → edit_kind edit ≡ Preference
+    → IsRefusalAt inside.preference.processor edit fault
+    → Happens number (change_effect hashed number edit (client_of inside)) Void (client_of inside) (client_of inside) settled settled
 unfolding edit_effect
-edit_void inside number edit copy fault new before settled is same refused faulty is_new is_settled =
-    nothing number (change_effect hashed number edit (client_of inside)) Void (client_of inside) (client_of (with_processor inside new)) before settled
+edit_void inside number edit fault settled is refused =
+    nothing number (change_effect hashed number edit (client_of inside)) Void (client_of inside) (client_of inside) settled settled
     (is_change inside number edit is
     ∙ voided (is_some (edit_refusal hashed (client_of inside) edit)) (edit_taken hashed number edit (client_of inside))
-    (ap is_some (same_refusal inside edit is) ∙ ap (λ own. is_some (refusal_of inside.preference.processor own)) (sym same)
-    ∙ is_refused (is_found_at_once copy) (refusal_of inside.preference.processor copy) (edit_length (own_before inside.preference.processor copy) copy) fault refused faulty))
-    refl (ap (λ processor. client_of (with_processor inside processor)) is_new) is_settled
+    (ap is_some (same_refusal inside edit is)
+    ∙ is_refused (refusal_of inside.preference.processor edit) (edit_length (own_before inside.preference.processor edit) edit) fault refused))
+    refl refl refl
+
+-- an edit that the processor says it would refuse
+pub edit_refused : (inside : Inside) (number : ℕ) (edit : Edit) (answer : Result (Unit {0}) EditFault) (settled : List Settlement) → edit_kind edit ≡ Preference
+    → is_err answer ≡ true → IfErr answer (IsRefusalAt inside.preference.processor edit)
+    → Happens number (change_effect hashed number edit (client_of inside)) Void (client_of inside) (client_of inside) settled settled
+edit_refused inside number edit (Ok done) settled is err refused = absurd (false≢true err)
+edit_refused inside number edit (Err fault) settled is err refused = edit_void inside number edit fault settled is refused
+
+-- what holds where the processor would take an edit
+pub may_be_taken : {P : Type 0} (answer : Result (Unit {0}) EditFault) → is_err answer ≡ false → OnOk answer P → P
+may_be_taken (Ok done) taken holds = holds
+may_be_taken (Err fault) taken holds = absurd (false≢true (sym taken))

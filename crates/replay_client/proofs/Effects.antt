@@ -1,7 +1,7 @@
 -- That an event has its effect.
-use Rattle.std.proofs.Common.{◌≡◌, ℕ, Bool, true, false, cond, List, ◌++◌, map, Option, Some, None, Result, Ok, Err, refl, sym}
+use Rattle.std.proofs.Common.{◌≡◌, ℕ, Bool, true, false, cond, List, ◌++◌, map, Option, Some, None, Result, Ok, Err, refl, sym, ap}
 use Rattle.std.proofs.lemmas.List.{append-nil}
-use Rattle.std.specs.Prelude.{IfOk}
+use Rattle.std.specs.Prelude.{IfOk, OnErr, is_some, IsSome}
 use Rattle.sync_model.specs.declared.event.EventOutcome.{EventOutcome}
 use Rattle.sync_model.specs.declared.event.EventOutcome.TheVariants.{Void}
 use Rattle.sync_model.specs.declared.fate.Settlement.{Settlement}
@@ -15,6 +15,10 @@ voided test x is = rw is refl
 
 pub made : {A : Type 0} (test : Bool) (x : A) → test ≡ false → cond test None (Some x) ≡ Some x
 made test x is = rw is refl
+
+-- an effect that a test lets be is had
+pub has_effect : (test : Bool) (effect : Effect) → test ≡ false → IsSome (cond test None (Some effect))
+has_effect test effect is = ap is_some (made test effect is)
 
 -- nothing happens
 pub nothing : (number : ℕ) (effect : Option Effect) (outcome : EventOutcome) (client new : Client) (before settled : List Settlement) → effect ≡ None
@@ -42,3 +46,13 @@ alone found after told outcome client new is is_told is_new =
 pub if_ok_weaker : {A E : Type 0} (result : Result A E) (P Q : A → Type 0) → ((value : A) → P value → Q value) → IfOk result P → IfOk result Q
 if_ok_weaker (Ok value) P Q follows holds = follows value holds
 if_ok_weaker (Err fault) P Q follows holds = tt
+
+-- what holds in any case holds of a fault
+pub on_err_holds : {A E P : Type 0} (result : Result A E) → P → OnErr result P
+on_err_holds (Ok value) holds = tt
+on_err_holds (Err fault) holds = holds
+
+-- what follows at a fault from what is known there
+pub on_err_weaker : {A E P Q : Type 0} (result : Result A E) → (P → Q) → OnErr result P → OnErr result Q
+on_err_weaker (Ok value) follows holds = tt
+on_err_weaker (Err fault) follows holds = follows holds

@@ -1,7 +1,7 @@
 -- What a post and a turn make of a client of preferences that nothing seals.
-use Rattle.std.proofs.Common.{◌≡◌, ℕ, Bool, true, false, cond, List, [], ◌∷◌, ◌++◌, map, Option, Some, None, Result, Ok, Err, refl, sym, ap, ◌∙◌, subst, IsTrue}
+use Rattle.std.proofs.Common.{◌≡◌, ℕ, Bool, true, cond, List, [], ◌∷◌, ◌++◌, map, Option, Some, None, Result, Ok, Err, refl, sym, ap, ◌∙◌, subst, IsTrue, arith, length, ◌<◌}
 use Rattle.std.proofs.lemmas.Bool.{false≢true}
-use Rattle.std.specs.Prelude.{◌&&◌, IfSome, IfOk, OnErr}
+use Rattle.std.specs.Prelude.{◌&&◌, is_some, IsSome, IfSome, IfOk, OnErr}
 use Rattle.std.specs.List.{AllByRecursion, list_all}
 use Rattle.client_tags.specs.declared.Kind.{Kind}
 use Rattle.client_tags.specs.declared.Kind.TheVariants.{Nigori, Preference, Password}
@@ -11,7 +11,7 @@ use Rattle.sync_values.specs.declared.value.Value.{Value}
 use Rattle.sync_values.specs.declared.value.Value.TheVariants as values
 use Rattle.sync_model.specs.declared.conflict.Decision.{Decision}
 use Rattle.sync_model.specs.declared.event.EventOutcome.{EventOutcome}
-use Rattle.sync_model.specs.declared.event.EventOutcome.TheVariants.{Void, Done}
+use Rattle.sync_model.specs.declared.event.EventOutcome.TheVariants.{Done}
 use Rattle.sync_model.specs.declared.fate.Settlement.{Settlement}
 use Rattle.sync_model.specs.declared.message.Task.{Task}
 use Rattle.sync_model.specs.declared.message.Task.TheVariants.{Batch as Updating, Acks}
@@ -24,7 +24,7 @@ use Rattle.sync_model.specs.Sides.{after_task, after_updates, after_acks, task_n
 use Rattle.sync_model.specs.Values.{keys_in}
 use Rattle.sync_model.specs.Worlds.{settlement_of}
 use Rattle.type_processor.specs.Fits.{may_have}
-use Rattle.type_processor.specs.Turns.{turned, turned_by}
+use Rattle.type_processor.specs.Turns.{turned_by}
 use Rattle.replay_client.specs.Clients.{side_of as stood_for, IsIdle}
 use Rattle.wire_fields.specs.declared.memory.NoMemory.{NoMemory}
 use Rattle.replay_client.specs.declared.side.Side.{Side}
@@ -122,6 +122,22 @@ post_happens client kind old new (Some task) outcome is is_letter unsealed post 
     alone (post_effect hashed kind client) (posted hashed client kind (stood_for old) task) Done outcome client (with_side client kind (stood_for new))
     (ap (λ side. post_effect_at hashed client kind side side.letter) is ∙ ap (post_effect_at hashed client kind (stood_for old)) is_letter) post.0
     (ap (λ side. with_side client kind (stood_for side)) post.1 ∙ sym (posted_is client kind (stood_for old) task refl unsealed))
+
+-- a letter that is there is posted
+pub post_has_effect : {Rules : Type 0} (client : Client) (kind : Kind) (old : Side Rules) (letter : Option Task) → side_of client kind ≡ stood_for old
+    → old.letter ≡ letter → IsSome letter → IsSome (post_effect hashed kind client)
+unfolding post_effect
+post_has_effect client kind old None is is_letter there = absurd (false≢true there)
+post_has_effect client kind old (Some task) is is_letter there =
+    ap is_some (ap (λ side. post_effect_at hashed client kind side side.letter) is ∙ ap (post_effect_at hashed client kind (stood_for old)) is_letter)
+
+-- a task that waits is applied
+pub turn_has_effect : {Rules : Type 0} (client : Client) (kind : Kind) (old : Side Rules) (tasks : List Task) → side_of client kind ≡ stood_for old
+    → old.processor.mailbox ≡ tasks → 0 < length tasks → IsSome (turn_effect hashed kind client)
+unfolding turn_effect
+turn_has_effect client kind old [] is is_mailbox some = absurd (omega (arith, some))
+turn_has_effect client kind old (task ∷ tasks) is is_mailbox some =
+    ap is_some (ap (λ side. turn_effect_at hashed client kind side side.mailbox) is ∙ ap (turn_effect_at hashed client kind (stood_for old)) is_mailbox)
 
 -- what a turn makes of a processor is what it makes of its side
 side_turned : {Rules : Type 0} (decided : Value → Value → Decision) (old : Side Rules) (task : Task) (tasks : List Task)

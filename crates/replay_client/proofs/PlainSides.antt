@@ -1,7 +1,7 @@
 -- A side of preferences stays plain.
-use Rattle.std.proofs.Common.{◌≡◌, ℕ, List, [], ◌∷◌, ◌++◌, Option, Some, None, Result, Ok, Err, refl, sym, ap, subst, ◌∙◌}
+use Rattle.std.proofs.Common.{◌≡◌, ℕ, List, [], ◌∷◌, Option, Some, None, Result, Ok, Err, refl, sym, ap, subst, ◌∙◌}
 use Rattle.std.specs.List.{AllByRecursion}
-use Rattle.std.specs.Prelude.{OnOk, OnErr, IfOk, IfSome}
+use Rattle.std.specs.Prelude.{OnErr, IfOk, IfSome}
 use Rattle.client_tags.specs.declared.Kind.{Kind}
 use Rattle.client_tags.specs.declared.Kind.TheVariants.{Preference}
 use Rattle.conflict_rules.specs.declared.rules.Preferences.{Preferences}
@@ -16,7 +16,6 @@ use Rattle.sync_model.specs.declared.message.Entry.{Entry}
 use Rattle.sync_model.specs.declared.message.Offer.{Offer}
 use Rattle.sync_model.specs.declared.message.Task.{Task}
 use Rattle.sync_model.specs.declared.message.Task.TheVariants.{Batch as Updating, Acks}
-use Rattle.sync_model.specs.Clients.{Client}
 use Rattle.sync_model.specs.Edits.{edit_kind, edit_value}
 use Rattle.sync_model.specs.KeyStates.{edited}
 use Rattle.sync_model.specs.Sides.{side_offered, state_at, after_task}
@@ -28,7 +27,7 @@ use Rattle.replay_client.specs.declared.client.Client.TheInside.{Inside}
 use Rattle.replay_client.specs.declared.side.Side.{Side}
 use Rattle.replay_client.specs.Clients.{client_of, IsPlainSide}
 use Rattle.replay_client.specs.Mail.{IsPlainTask}
-use Rattle.replay_client.specs.Sides.{posted, IsPostedOf, IsTurnedBy}
+use Rattle.replay_client.specs.Sides.{IsPostedOf, IsTurnedBy}
 use Rattle.replay_client.proofs.HeldLemmas.{all_append}
 use Rattle.replay_client.proofs.PlainStates.{own_plain, put_plain, made_plain, IsPlainDecision, task_plain, offered_plain}
 

@@ -1,9 +1,8 @@
 -- What a client of preferences has of its keys stays plain: what edits, updates and acknowledgements give it is.
-use Rattle.std.proofs.Common.{◌≡◌, ℕ, zero, suc, Bool, true, false, cond, List, [], ◌∷◌, ◌++◌, take, Option, Some, None, is_some, refl, sym, ap, subst, ◌∙◌}
+use Rattle.std.proofs.Common.{◌≡◌, ℕ, Bool, true, false, cond, List, [], ◌∷◌, Option, Some, None, is_some, ap}
 use Rattle.std.specs.List.{AllByRecursion}
 use Rattle.std.proofs.lemmas.Bool.{false≢true}
 use Rattle.std.specs.Prelude.{nat_le}
-use Rattle.client_tags.specs.declared.Kind.{Kind}
 use Rattle.client_tags.specs.declared.Kind.TheVariants as kinds
 use Rattle.message_fields.specs.Unknown.{IsCanonicalExtra}
 use Rattle.sync_specifics.specs.Extras.{IsCanonicalEdit}
@@ -31,7 +30,7 @@ use Rattle.sync_model.specs.Offers.{offer_for, placed, with_due, with_all_due, d
 use Rattle.sync_model.specs.Settings.{names, decided_by}
 use Rattle.sync_model.specs.Sides.{States, Side, state_at, with_state, after_update, after_updates, after_ack, after_acks, after_offers, after_task}
 use Rattle.sync_model.specs.Values.{same_kind, extra_in}
-use Rattle.sync_model.proofs.FateKeys.{Each, each_at, each_put}
+use Rattle.sync_model.proofs.FateKeys.{each_at, each_put}
 use Rattle.replay_messages.specs.Forms.{IsPlainValue}
 use Rattle.loopback_server.proofs.NoExtra.{no_extra}
 use Rattle.replay_client.specs.Clients.{HavePlainValues}

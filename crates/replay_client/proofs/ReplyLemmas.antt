@@ -1,5 +1,5 @@
 -- What a client reads in a reply's message is what the reply says.
-use Rattle.std.proofs.Common.{◌≡◌, ℕ, suc, ◌≤◌, ◌<◌, ◌^◌, arith, Bool, true, false, cond, List, [], ◌∷◌, ◌++◌, length, map, Option, Some, None, refl, sym, ap, ◌∙◌, subst, unwrap_or}
+use Rattle.std.proofs.Common.{◌≡◌, ℕ, suc, ◌≤◌, arith, Bool, true, false, cond, List, [], ◌∷◌, ◌++◌, length, map, Option, Some, None, refl, sym, ap, ◌∙◌, subst, unwrap_or}
 use Rattle.std.specs.Prelude.{◌==◌, ◌||◌, not, is_some, nat_le, if◌then◌else◌, IsTrue, IfSome}
 use Rattle.std.specs.Int.{w64, cast_signed, cast_unsigned}
 use Rattle.std.proofs.lemmas.Bool.{le-leb, leb-true, false≢true, true≢false}
@@ -31,7 +31,7 @@ use Rattle.sync_model.specs.declared.message.Update.{Update}
 use Rattle.sync_model.specs.declared.message.Updates.{Updates}
 use Rattle.sync_model.specs.declared.message.Verdict.{Verdict}
 use Rattle.sync_model.specs.declared.message.Verdict.TheVariants as verdicts
-use Rattle.sync_model.specs.Clients.{Client, plain_effect}
+use Rattle.sync_model.specs.Clients.{Client}
 use Rattle.sync_model.specs.Receiving.{ack_of, ack_for, acks_of, letter_of, update_of, updates_in, batch_letter, letter_in, is_fit, is_other_store, told, answered_with, answer_effect}
 use Rattle.sync_model.specs.Servers.{mark_of}
 use Rattle.sync_model.specs.Values.{same_kind}
@@ -42,7 +42,7 @@ use Rattle.replay_messages.specs.Forms.{IsPlain, IsPlainValue, IsPlainCall, form
 use Rattle.replay_messages.specs.Messages.{reply_told}
 use Rattle.replay_client.specs.declared.letters.Letters.{Letters}
 use Rattle.replay_client.specs.Happenings.{HappensAlone}
-use Rattle.replay_client.specs.Readings.{ack_at, ack_by, ack_read, acks_read, value_read, update_at, update_read, updates_read, batch_read, letters_of_updates, letters_read}
+use Rattle.replay_client.specs.Readings.{ack_at, ack_by, ack_read, acks_read, value_read, update_at, update_read, updates_read, batch_read, letters_read}
 use Rattle.replay_client.specs.Mail.{IsPlainAck, IsPlainTask}
 use Rattle.replay_client.specs.Replies.{IsVersioned, IsPlainWrite, IsReplyTo, with_letters}
 use Rattle.replay_client.proofs.Effects.{alone}

@@ -1,12 +1,10 @@
 -- What a client of preferences that nothing seals sends.
-use Rattle.std.proofs.Common.{◌≡◌, ℕ, zero, suc, ◌-◌, arith, ◌≤◌, ◌<◌, ◌^◌, Bool, true, false, cond, List, [], ◌∷◌, ◌++◌, length, take, Option, Some, None, refl, sym, ap, ◌∙◌, subst, IsTrue}
-use Rattle.std.proofs.lemmas.Bool.{false≢true}
+use Rattle.std.proofs.Common.{◌≡◌, ℕ, zero, suc, ◌-◌, arith, ◌≤◌, ◌<◌, ◌^◌, Bool, true, false, cond, List, [], ◌∷◌, ◌++◌, length, take, Option, Some, None, refl, sym, ap, ◌∙◌, subst}
 use Rattle.std.proofs.lemmas.List.{append-nil, length-take}
-use Rattle.std.specs.Prelude.{◌==◌, ◌||◌, if◌then◌else◌, min, count_by}
+use Rattle.std.specs.Prelude.{◌==◌, ◌||◌, IsSome, if◌then◌else◌}
 use Rattle.std.specs.List.{AllByRecursion}
 use Rattle.client_tags.specs.declared.Kind.{Kind}
 use Rattle.client_tags.specs.declared.Kind.TheVariants.{Nigori, Preference, Password}
-use Rattle.sync_values.specs.declared.value.Value.{Value}
 use Rattle.sync_values.specs.declared.value.Value.TheVariants as values
 use Rattle.run_setting.specs.Hashed.{hashed}
 use Rattle.sync_model.specs.declared.event.EventOutcome.TheVariants.{Void, Done, Requested}
@@ -15,19 +13,19 @@ use Rattle.sync_model.specs.declared.message.Content.{Content}
 use Rattle.sync_model.specs.declared.message.Entry.{Entry}
 use Rattle.sync_model.specs.declared.message.Marker.{Marker}
 use Rattle.sync_model.specs.declared.message.Offer.{Offer}
-use Rattle.sync_model.specs.Clients.{Client, Effect, side_of, with_side, plain_effect, nigori_base, wanted_name}
+use Rattle.sync_model.specs.Clients.{Client, side_of, with_side, plain_effect, nigori_base, wanted_name}
 use Rattle.sync_model.specs.Offers.{with_all_due, with_reseals, due_offers, reseal_offers, offers_of, reseal_count}
 use Rattle.sync_model.specs.Settings.{nigori_hash}
 use Rattle.sync_model.specs.Sides.{States, state_at, after_offers, side_offered}
 use Rattle.sync_model.specs.Values.{is_absent}
-use Rattle.sync_model.specs.Sending.{MAX_ENTRIES, entry_of, sealed, lock_for, drawn_for, drawn_after, is_held_back, lacks_own_lock, asked_offers, offers_if_had, gathered, holding, noting, gathering, is_gather_void, gather_effect, is_busy, seen_marks, ask_of, ask_effect, commit_of, offer_effect}
+use Rattle.sync_model.specs.Sending.{MAX_ENTRIES, entry_of, sealed, drawn_for, drawn_after, is_held_back, lacks_own_lock, asked_offers, offers_if_had, gathered, holding, noting, gathering, is_gather_void, gather_effect, is_busy, seen_marks, ask_of, ask_effect, commit_of, offer_effect}
 use Rattle.type_processor.specs.Fits.{IsOfferOf}
 use Rattle.replay_messages.specs.Forms.{IsPlain, IsPlainValue}
 use Rattle.replay_client.specs.declared.client.Client.TheInside.{Inside}
 use Rattle.replay_client.specs.Clients.{client_of, HavePlainValues}
 use Rattle.replay_client.specs.Requests.{marks_with}
 use Rattle.replay_client.specs.Happenings.{HappensAlone}
-use Rattle.replay_client.proofs.Effects.{voided, made, alone_void, alone}
+use Rattle.replay_client.proofs.Effects.{voided, made, has_effect, alone_void, alone}
 use Rattle.replay_client.proofs.HeldLemmas.{either_way, none_drawn, all_append}
 use Rattle.replay_client.proofs.PlainStates.{HasPlainValue, due_offers_plain}
 
@@ -123,6 +121,21 @@ unfolding gather_effect
 gather_done client kind new is is_new =
     alone (gather_effect hashed kind client) (gathering hashed kind client (side_of client kind).pending) Done Done client new
     (made (is_gather_void kind client) (plain_effect (gathering hashed kind client (side_of client kind).pending) Done) is) refl is_new
+
+pub gather_has_effect : (client : Client) (kind : Kind) → is_gather_void kind client ≡ false → IsSome (gather_effect hashed kind client)
+unfolding gather_effect
+gather_has_effect client kind is =
+    has_effect (is_gather_void kind client) (plain_effect (gathering hashed kind client (side_of client kind).pending) Done) is
+
+pub ask_has_effect : (number event : ℕ) (client : Client) → is_busy client ≡ false → IsSome (ask_effect number event client)
+unfolding ask_effect
+ask_has_effect number event client is =
+    has_effect (is_busy client) (plain_effect (record client { outstanding = Some event }) (Requested number (ask_of client))) is
+
+pub offer_has_effect : (number event : ℕ) (client : Client) → (is_busy client || length client.held == 0) ≡ false → IsSome (offer_effect number event client)
+unfolding offer_effect
+offer_has_effect number event client is =
+    has_effect (is_busy client || length client.held == 0) (plain_effect (record client { held = []; outstanding = Some event }) (Requested number (commit_of client))) is
 
 pub ask_void : (number event : ℕ) (client : Client) → is_busy client ≡ true → HappensAlone (ask_effect number event client) Void client client
 unfolding ask_effect

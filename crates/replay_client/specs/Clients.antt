@@ -1,5 +1,5 @@
 -- What a client of preferences stands for, and what holds of it.
-use Rattle.std.specs.Prelude.{◌≡◌, ℕ, [], None, IfSome}
+use Rattle.std.specs.Prelude.{◌≡◌, [], None, IfSome}
 use Rattle.std.specs.List.{AllByRecursion}
 use Rattle.client_tags.specs.declared.Kind.TheVariants.{Preference as preference_kind}
 use Rattle.sync_model.specs.Clients as clients

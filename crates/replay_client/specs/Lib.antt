@@ -6,5 +6,4 @@ pub mod Sides
 pub mod Replies
 pub mod Readings
 pub mod Withdrawn
-pub mod Refusals
 pub mod Laws

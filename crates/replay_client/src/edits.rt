@@ -1,18 +1,16 @@
 //! What a user's edit makes of a client.
-ghost use Rattle.std.specs.Prelude.{◌≡◌, ◌<◌, ◌++◌, map, vec_len, vec_capacity, IfOk, OnOk, OnErr};
+ghost use Rattle.std.specs.Prelude.{◌≡◌, ◌<◌, ◌++◌, map, vec_len, vec_capacity, IsSome, IfOk, OnErr};
 ghost use Rattle.client_tags.specs.declared.Kind.TheVariants.{Preference as preference_kind};
 ghost use Rattle.run_setting.specs.Hashed.{hashed};
 ghost use Rattle.sync_specifics.specs.Extras.{IsCanonicalEdit};
 ghost use Rattle.sync_model.specs.Changes.{change_effect, follows};
 ghost use Rattle.sync_model.specs.Edits.{edit_kind};
 ghost use Rattle.sync_model.specs.Worlds.{settlement_of};
-ghost use Rattle.replay_client.specs.Refusals.{IsRefusal};
 ghost use Rattle.replay_client.specs.Happenings.{Happens, IsPlainOutcome};
 
 use crate::client::Client;
 use client_tags::Kind;
 use sync_model::{Edit, EventOutcome, Fate, Settlement};
-use type_processor::EditFault;
 use wire_fields::NoMemory;
 
 fn copied_edit(edit: &Edit) -> Result<Edit, NoMemory>
@@ -24,16 +22,6 @@ fn copied_edit(edit: &Edit) -> Result<Edit, NoMemory>
         Edit::NewerPreference(preference) => Ok(Edit::NewerPreference(preference.copy()?)),
         Edit::DeletePreference(name) => Ok(Edit::DeletePreference(name.copy()?)),
         _ => unreachable!(),
-    }
-}
-
-// Tells that an edit was refused from that memory was wanting for it.
-fn refused(fault: EditFault) -> Result<(), NoMemory>
-    ensures { OnOk result (IsRefusal fault) }
-{
-    match fault {
-        EditFault::NoMemory => Err(NoMemory),
-        _ => Ok(()),
     }
 }
 
@@ -73,16 +61,17 @@ impl Client {
             self.old self.new settlements.old.items settlements.new.items) }
         ensures plain { IfOk result IsPlainOutcome }
         ensures err { OnErr result (self.new ≡ self.old) }
+        ensures memory { OnErr result (IsSome (change_effect hashed number edit.now self.old)) }
         ensures unsettled { OnErr result (settlements.new.items ≡ settlements.old.items) }
     {
+        if self.preference.processor.may_edit(edit).is_err() {
+            return Ok(EventOutcome::Void);
+        }
         let copy = copied_edit(edit)?;
         settlements.reserve(1)?;
-        let edited = match self.preference.processor.edit(copy) {
-            Ok(edited) => edited,
-            Err(fault) => {
-                refused(fault)?;
-                return Ok(EventOutcome::Void);
-            }
+        // The edit may be taken, so memory is all that can be wanting.
+        let Ok(edited) = self.preference.processor.edit(copy) else {
+            return Err(NoMemory);
         };
         settle_followed(settlements, number, edited.followed, edited.number);
         Ok(EventOutcome::Edited {

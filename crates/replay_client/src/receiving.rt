@@ -1,5 +1,5 @@
 //! What a client makes of a reply: letters, which are posted to mailboxes, and turns that apply them.
-ghost use Rattle.std.specs.Prelude.{◌≡◌, None, IfOk, OnErr};
+ghost use Rattle.std.specs.Prelude.{◌≡◌, None, IsSome, IfOk, OnErr};
 ghost use Rattle.std.specs.Option.{option_or};
 ghost use Rattle.run_setting.specs.Hashed.{hashed};
 ghost use Rattle.sync_model.specs.declared.message.Content.{Content as ContentOf};
@@ -55,7 +55,8 @@ impl Client {
     /// The reply to the outstanding request, which is this one, reaches the client as a message. It takes time in
     /// what the message holds.
     ///
-    /// Its entities have canonical extras, as those have that are decoded. A message that tells no reply of a server to the request is read as far as it goes.
+    /// Its entities have canonical extras, as those have that are decoded. A message that tells no reply of a server to
+    /// the request is read as far as it goes.
     pub fn answer(
         &mut self,
         request: &Request<Content>,
@@ -86,6 +87,7 @@ impl Client {
         ensures happens { IfOk result (λ outcome. HappensAlone (post_effect hashed kind self.old) outcome self.old self.new) }
         ensures plain { IfOk result IsPlainOutcome }
         ensures err { OnErr result (self.new ≡ self.old) }
+        ensures memory { OnErr result (IsSome (post_effect hashed kind self.old)) }
     {
         match kind {
             Kind::Nigori => self.nigori.post(),
@@ -106,6 +108,7 @@ impl Client {
             self.old self.new settlements.old.items settlements.new.items) }
         ensures plain { IfOk result IsPlainOutcome }
         ensures err { OnErr result (self.new ≡ self.old) }
+        ensures memory { OnErr result (IsSome (turn_effect hashed kind self.old)) }
         ensures unsettled { OnErr result (settlements.new.items ≡ settlements.old.items) }
     {
         match kind {

@@ -1,5 +1,5 @@
 //! What a client sends: how it gathers entries, and the requests that it makes.
-ghost use Rattle.std.specs.Prelude.{◌≡◌, ◌<◌, ◌^◌, ◌||◌, ◌==◌, is_some, length, IfOk, OnOk, OnErr};
+ghost use Rattle.std.specs.Prelude.{◌≡◌, ◌<◌, ◌^◌, ◌||◌, ◌==◌, is_some, length, IsSome, IfOk, OnOk, OnErr};
 ghost use Rattle.std.specs.List.{AllByRecursion};
 ghost use Rattle.run_setting.specs.Hashed.{hashed};
 ghost use Rattle.sync_model.specs.Clients.{side_of};
@@ -71,6 +71,7 @@ impl Client {
         ensures happens { IfOk result (λ outcome. HappensAlone (gather_effect hashed kind self.old) outcome self.old self.new) }
         ensures plain { IfOk result IsPlainOutcome }
         ensures err { OnErr result (self.new ≡ self.old) }
+        ensures memory { OnErr result (IsSome (gather_effect hashed kind self.old)) }
     {
         if self.cannot_gather(kind) {
             return Ok(EventOutcome::Void);
@@ -84,6 +85,7 @@ impl Client {
         ensures happens { IfOk result (λ outcome. HappensAlone (ask_effect number event self.old) outcome self.old self.new) }
         ensures plain { IfOk result IsPlainOutcome }
         ensures err { OnErr result (self.new ≡ self.old) }
+        ensures memory { OnErr result (IsSome (ask_effect number event self.old)) }
     {
         if self.is_busy() {
             return Ok(EventOutcome::Void);
@@ -117,6 +119,7 @@ impl Client {
         ensures happens { IfOk result (λ outcome. HappensAlone (offer_effect number event self.old) outcome self.old self.new) }
         ensures plain { IfOk result IsPlainOutcome }
         ensures err { OnErr result (self.new ≡ self.old) }
+        ensures memory { OnErr result (IsSome (offer_effect number event self.old)) }
     {
         if self.cannot_offer() {
             return Ok(EventOutcome::Void);

@@ -1,5 +1,5 @@
 //! A client's side of one type: its processor, and what its cycle keeps for it.
-ghost use Rattle.std.specs.Prelude.{◌≡◌, ◌+◌, ◌≤◌, ◌++◌, length, map, vec_len, vec_capacity, IfOk, IfSome, OnErr};
+ghost use Rattle.std.specs.Prelude.{◌≡◌, ◌+◌, ◌<◌, ◌≤◌, ◌++◌, length, map, vec_len, vec_capacity, IsSome, IfOk, IfSome, OnErr};
 ghost use Rattle.sync_model.specs.Worlds.{settlement_of};
 ghost use Rattle.type_processor.specs.Fits.{IsTaskOf};
 ghost use Rattle.replay_client.specs.Sides.{new_side_of, seen_after, IsPosted, IsTurned};
@@ -62,6 +62,7 @@ impl<R: TypeRules> Side<R> {
         requires { IfSome self.old.letter (IsTaskOf self.old.processor.kind) }
         ensures posted { IfOk result (λ outcome. IsPosted self.old outcome self.new) }
         ensures err { OnErr result (self.new ≡ self.old) }
+        ensures memory { OnErr result (IsSome self.old.letter) }
     {
         if self.letter.is_none() {
             return Ok(EventOutcome::Void);
@@ -82,8 +83,12 @@ impl<R: TypeRules> Side<R> {
         ensures turned { IfOk result (λ outcome. IsTurned (R.decided self.old.processor.rules) client kind self.old outcome self.new
             settlements.old.items settlements.new.items) }
         ensures err { OnErr result (self.new ≡ self.old) }
+        ensures memory { OnErr result (0 < length self.old.processor.mailbox) }
         ensures unsettled { OnErr result (settlements.new.items ≡ settlements.old.items) }
     {
+        if self.processor.mailbox_len() == 0 {
+            return Ok(EventOutcome::Void);
+        }
         settlements.reserve(self.processor.next_size())?;
         match self.processor.turn()? {
             Turn::Idle => Ok(EventOutcome::Void),

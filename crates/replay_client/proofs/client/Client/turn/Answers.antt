@@ -1,8 +1,8 @@
 use Rattle.std.proofs.Common.{refl}
 use Rattle.client_tags.specs.declared.Kind.TheVariants.{Nigori, Preference, Password}
 use Rattle.replay_client.specs.Clients.{client_of}
-use Rattle.replay_client.proofs.Effects.{if_ok_weaker}
-use Rattle.replay_client.proofs.MailLemmas.{turn_happens, same_rule, stays_idle}
+use Rattle.replay_client.proofs.Effects.{if_ok_weaker, on_err_weaker}
+use Rattle.replay_client.proofs.MailLemmas.{turn_happens, same_rule, stays_idle, turn_has_effect}
 use Rattle.replay_client.proofs.PlainSides.{turn_stays_plain}
 use Rattle.replay_client.proofs.PlainStates.{preferences_plain}
 use Rattle.replay_client.proofs.client.Client.turn.Goals as goal
@@ -51,3 +51,15 @@ returns-in-Password-clause-happens c =
     let side = c.self.inside.password in
     rw (← c.self.view_is, c.in-Password.is) (if_ok_weaker c.turn-in-Password.result _ _ (λ outcome turned. turn_happens c.args.number (client_of c.self.inside) Password _ side c.turn-in-Password.new.self side.processor.mailbox outcome
     c.args.settlements.now.items c.turn-in-Password.new.settlements.items (same_rule Password) refl refl turned) c.turn-in-Password.ensures.turned)
+
+pub returns-in-Nigori-clause-memory : goal.returns-in-Nigori-clause-memory
+returns-in-Nigori-clause-memory c =
+    rw (← c.self.view_is, c.in-Nigori.is) (on_err_weaker c.turn.result (λ there. turn_has_effect (client_of c.self.inside) Nigori c.self.inside.nigori c.self.inside.nigori.processor.mailbox refl refl there) c.turn.ensures.memory)
+
+pub returns-in-Preference-clause-memory : goal.returns-in-Preference-clause-memory
+returns-in-Preference-clause-memory c =
+    rw (← c.self.view_is, c.in-Preference.is) (on_err_weaker c.turn-in-Preference.result (λ there. turn_has_effect (client_of c.self.inside) Preference c.self.inside.preference c.self.inside.preference.processor.mailbox refl refl there) c.turn-in-Preference.ensures.memory)
+
+pub returns-in-Password-clause-memory : goal.returns-in-Password-clause-memory
+returns-in-Password-clause-memory c =
+    rw (← c.self.view_is, c.in-Password.is) (on_err_weaker c.turn-in-Password.result (λ there. turn_has_effect (client_of c.self.inside) Password c.self.inside.password c.self.inside.password.processor.mailbox refl refl there) c.turn-in-Password.ensures.memory)
