@@ -1,8 +1,7 @@
 -- What a server of plain entries says is a reply to what it is asked.
-use Rattle.std.proofs.Common.{◌≡◌, ℕ, suc, ◌+◌, ◌<◌, ◌≤◌, ◌^◌, arith, Bool, true, false, cond, List, [], ◌∷◌, ◌++◌, length, take, refl, sym, ap, subst, ◌∙◌, leb, eqb}
+use Rattle.std.proofs.Common.{◌≡◌, ℕ, suc, ◌+◌, ◌<◌, ◌≤◌, ◌^◌, arith, Bool, true, false, cond, List, [], ◌∷◌, length, refl, ap, eqb}
 use Rattle.std.proofs.lemmas.Bool.{leb-false, or_parts}
 use Rattle.std.specs.List.{AllByRecursion}
-use Rattle.sync_model.specs.declared.message.Answer.{Answer}
 use Rattle.sync_model.specs.declared.message.Answer.TheVariants.{Success, Conflict, Invalid, OverQuota}
 use Rattle.sync_model.specs.declared.message.Call.{Call}
 use Rattle.sync_model.specs.declared.message.Call.TheVariants.{Commit, Updates}
@@ -11,7 +10,7 @@ use Rattle.sync_model.specs.declared.message.Entry.{Entry}
 use Rattle.sync_model.specs.declared.message.Marker.{Marker}
 use Rattle.sync_model.specs.declared.message.Request.{Request}
 use Rattle.sync_model.specs.declared.message.Verdict.TheVariants.{Refused}
-use Rattle.sync_model.specs.History.{MAX_KEYS, LAST_VERSION, last_version, key_count, is_over_quota, answer_to, history_with, answers_to}
+use Rattle.sync_model.specs.History.{LAST_VERSION, last_version, is_over_quota, answer_to, history_with, answers_to}
 use Rattle.sync_model.specs.Servers.{is_foreign, is_wanted, as_given, wanted_writes, verdict_on, MAX_UPDATES, reply_to, NOT_MY_BIRTHDAY}
 use Rattle.sync_model.specs.Worlds.{STORE_BIRTHDAY, is_invalid_entry}
 use Rattle.sync_model.proofs.TrueAcks.{all_append}

@@ -1,5 +1,5 @@
 -- What an event of one client makes of a world.
-use Rattle.std.proofs.Common.{◌≡◌, ℕ, zero, suc, ◌+◌, ◌-◌, ◌<◌, ◌≤◌, arith, Bool, true, false, cond, List, [], ◌∷◌, ◌++◌, length, get_or, set, Option, Some, None, refl, sym, ap, subst, ◌∙◌}
+use Rattle.std.proofs.Common.{◌≡◌, ℕ, zero, suc, ◌-◌, ◌<◌, arith, Bool, true, false, cond, List, [], ◌∷◌, length, get_or, set, Option, Some, None, refl, sym, ap, subst, ◌∙◌}
 use Rattle.std.proofs.lemmas.Bool.{or_parts}
 use Rattle.std.proofs.lemmas.List.{get_or_read, set-get_or, length-set}
 use Rattle.std.specs.Prelude.{is_some, ◌||◌, ◌==◌}
@@ -9,7 +9,6 @@ use Rattle.sync_values.specs.declared.edit.Edit.{Edit}
 use Rattle.sync_model.specs.declared.event.EventOutcome.{EventOutcome}
 use Rattle.sync_model.specs.declared.event.EventOutcome.TheVariants.{Void, Done, Edited, Requested, Delivered}
 use Rattle.sync_model.specs.declared.fate.Settlement.{Settlement}
-use Rattle.sync_model.specs.declared.message.Call.{Call}
 use Rattle.sync_model.specs.declared.message.Content.{Content}
 use Rattle.sync_model.specs.declared.message.Entry.{Entry}
 use Rattle.sync_model.specs.declared.message.Reply.{Reply}
@@ -27,11 +26,10 @@ use Rattle.sync_model.specs.Worlds.{World, client_at, with_client_at, affected, 
 use Rattle.replay_client.specs.Happenings.{Happens, HappensAlone}
 use Rattle.replay_client.specs.Withdrawn.{withdrawn}
 use Rattle.replay_world.specs.declared.happened.Happened.{Happened}
-use Rattle.replay_world.specs.declared.happened.Happened.TheVariants as kept
 use Rattle.replay_world.specs.Asked.{IsQuietOutcome, IsSent, taken_back}
 use Rattle.replay_world.specs.Events.{IsNumber}
-use Rattle.replay_world.specs.Outcomes.{outcome_of, IsQuiet, IsKept, IsOfClient, IsRequest}
-use Rattle.replay_world.specs.Steps.{world_with, Acts, ActsAlone, Asks}
+use Rattle.replay_world.specs.Outcomes.{outcome_of, IsQuiet, IsKept, IsOfClient}
+use Rattle.replay_world.specs.Steps.{world_with, Acts, Asks}
 
 -- a client at a place that is there
 with_client_at-set : (clients : List Client) (place : ℕ) (client : Client) → place < length clients → with_client_at clients place client ≡ set clients place client

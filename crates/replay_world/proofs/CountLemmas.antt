@@ -6,7 +6,7 @@ use Rattle.std.specs.Prelude.{◌==◌, count_by, reverse}
 use Rattle.sync_model.specs.declared.event.EventOutcome.{EventOutcome}
 use Rattle.sync_model.specs.declared.message.Content.{Content}
 use Rattle.sync_model.specs.declared.message.Entry.{Entry}
-use Rattle.sync_model.specs.History.{last_version, key_count, IsBased}
+use Rattle.sync_model.specs.History.{key_count, IsBased}
 use Rattle.sync_model.specs.Report.{is_void, is_request, is_delivery}
 use Rattle.replay_world.specs.declared.happened.Happened.{Happened}
 use Rattle.replay_world.specs.declared.happened.Happened.TheVariants as kept

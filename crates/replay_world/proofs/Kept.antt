@@ -1,20 +1,19 @@
 -- What is kept of the events of a world, as later events look for it.
-use Rattle.std.proofs.Common.{◌≡◌, ℕ, suc, ◌+◌, ◌-◌, ◌<◌, ◌≤◌, arith, Bool, true, false, cond, List, [], ◌∷◌, ◌++◌, length, drop, get_or, Option, Some, None, inl, inr, refl, sym, ap, subst, ◌∙◌, eqb, length-append}
+use Rattle.std.proofs.Common.{◌≡◌, ℕ, suc, ◌+◌, ◌-◌, ◌<◌, ◌≤◌, arith, Bool, true, false, cond, List, [], ◌∷◌, length, drop, get_or, Option, Some, None, inl, inr, refl, sym, ap, subst, ◌∙◌, eqb, length-append}
 use Rattle.std.specs.Prelude.{◌≢◌, ◌⊎◌, reverse}
 use Rattle.std.specs.List.{AllByRecursion}
-use Rattle.std.proofs.lemmas.Bool.{eq-eqb}
 use Rattle.std.proofs.lemmas.Bool.Decides.{eqb_tells}
-use Rattle.std.proofs.lemmas.List.{get_or-reverse, get_or_read, length-reverse}
+use Rattle.std.proofs.lemmas.List.{get_or-reverse, length-reverse}
 use Rattle.std.proofs.Math.Seq.{drop-append-add}
 use Rattle.sync_model.specs.declared.event.EventOutcome.{EventOutcome}
-use Rattle.sync_model.specs.declared.event.EventOutcome.TheVariants.{Void, Done, Edited, Requested, Delivered}
+use Rattle.sync_model.specs.declared.event.EventOutcome.TheVariants.{Void, Requested, Delivered}
 use Rattle.sync_model.specs.declared.message.Content.{Content}
 use Rattle.sync_model.specs.declared.message.Entry.{Entry}
 use Rattle.sync_model.specs.declared.message.Request.{Request}
 use Rattle.sync_model.specs.Worlds.{outcome_at}
 use Rattle.replay_world.specs.declared.happened.Happened.{Happened}
 use Rattle.replay_world.specs.declared.happened.Happened.TheVariants as kept
-use Rattle.replay_world.specs.Outcomes.{history_at, served_reply, reply_of, outcome_of, outcomes_of, kept_at, IsReply, IsDelivery, IsKept, AreKept, IsOfClient}
+use Rattle.replay_world.specs.Outcomes.{history_at, served_reply, reply_of, outcome_of, outcomes_of, kept_at, IsReply, IsKept, AreKept}
 use Rattle.replay_world.proofs.Served.{IsLonger, longer_length}
 
 apart : (a b : ℕ) → (a ≡ b → ⊥) → eqb a b ≡ false

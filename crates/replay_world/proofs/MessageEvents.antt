@@ -1,8 +1,7 @@
 -- What a delivery and a reply make of a world.
-use Rattle.std.proofs.Common.{◌≡◌, ℕ, ◌+◌, ◌-◌, ◌<◌, ◌≤◌, arith, Bool, true, false, cond, List, [], ◌∷◌, ◌++◌, length, get_or, set, Option, Some, None, refl, sym, ap, subst, ◌∙◌}
+use Rattle.std.proofs.Common.{◌≡◌, ℕ, ◌-◌, arith, Bool, true, false, cond, List, ◌∷◌, length, get_or, set, Option, Some, None, refl, sym, ap, subst, ◌∙◌}
 use Rattle.std.proofs.lemmas.List.{length-set}
 use Rattle.std.specs.List.{AllByRecursion}
-use Rattle.sync_messages.specs.Laws.{IsSayable}
 use Rattle.sync_model.specs.declared.event.EventOutcome.{EventOutcome}
 use Rattle.sync_model.specs.declared.event.EventOutcome.TheVariants.{Void, Done, Edited, Requested, Delivered}
 use Rattle.sync_model.specs.declared.fate.Settlement.{Settlement}
@@ -14,15 +13,14 @@ use Rattle.sync_model.specs.Clients.{Client}
 use Rattle.sync_model.specs.Receiving.{answer_effect}
 use Rattle.sync_model.specs.Servers.{history_served}
 use Rattle.sync_model.specs.Worlds.{World, client_at, affected, voided, STORE_BIRTHDAY, is_invalid_entry, delivered, is_awaited, replied, answered, outcome_at}
-use Rattle.replay_messages.specs.Forms.{IsPlainCall}
 use Rattle.replay_messages.specs.Messages.{reply_told}
 use Rattle.replay_messages.specs.Spelled.{IsReplyBytes}
-use Rattle.replay_client.specs.Happenings.{Happens, HappensAlone}
+use Rattle.replay_client.specs.Happenings.{HappensAlone}
 use Rattle.replay_world.specs.declared.happened.Happened.{Happened}
 use Rattle.replay_world.specs.declared.happened.Happened.TheVariants as kept
 use Rattle.replay_world.specs.Asked.{IsNoRequest, IsNoDelivery}
 use Rattle.replay_world.specs.Events.{IsNumber}
-use Rattle.replay_world.specs.Outcomes.{history_at, served_reply, reply_of, outcome_of, outcomes_of, kept_at, IsRequest, IsReply, IsDelivery, IsKept, AreKept, IsOfClient, IsQuiet}
+use Rattle.replay_world.specs.Outcomes.{history_at, served_reply, reply_of, outcome_of, outcomes_of, kept_at, IsRequest, IsReply, IsDelivery, AreKept, IsOfClient, IsQuiet}
 use Rattle.replay_world.specs.Steps.{world_with, Delivers, Receives}
 use Rattle.replay_world.proofs.ClientEvents.{client_found, affected_is, same_clients}
 use Rattle.replay_world.proofs.Kept.{IsFound, missing, found, all_found, AreStill, still}

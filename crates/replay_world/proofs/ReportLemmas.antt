@@ -1,9 +1,8 @@
 -- What the parts of a report add up to.
-use Rattle.std.proofs.Common.{◌≡◌, ℕ, suc, ◌+◌, ◌<◌, arith, List, [], ◌∷◌, ◌++◌, length, drop, get_or, refl, sym, ap, subst, ◌∙◌, append_assoc}
+use Rattle.std.proofs.Common.{◌≡◌, ℕ, ◌+◌, ◌<◌, List, [], ◌∷◌, ◌++◌, length, drop, get_or, sym, ap, ◌∙◌, append_assoc}
 use Rattle.std.proofs.lemmas.List.{append-nil, drop_more, drop_all}
 use Rattle.std.specs.Prelude.{◌≤◌}
 use Rattle.sha2.specs.Sha256.{sha256}
-use Rattle.client_tags.specs.declared.Kind.TheVariants.{Nigori, Preference, Password}
 use Rattle.sync_model.specs.Clients.{Client, side_of, wanted_name}
 use Rattle.sync_model.specs.Report.{pass_number, entity_lines, events_line, server_line, client_line, side_line, value_lines, for_each_kind, client_lines, clients_lines, totals_line, report}
 use Rattle.sync_model.specs.Worlds.{World}

@@ -1,15 +1,13 @@
 -- What an event makes of the parts of a world is the model's step.
-use Rattle.std.proofs.Common.{◌≡◌, ℕ, ◌+◌, List, [], ◌∷◌, ◌++◌, length, Option, refl, sym, ap, subst, ◌∙◌}
-use Rattle.std.proofs.lemmas.List.{append-nil, length-reverse}
+use Rattle.std.proofs.Common.{◌≡◌, ℕ, ◌+◌, List, ◌∷◌, ◌++◌, length, Option, refl, sym, ap, subst, ◌∙◌}
+use Rattle.std.proofs.lemmas.List.{length-reverse}
 use Rattle.std.specs.Prelude.{reverse}
 use Rattle.client_tags.specs.declared.Kind.{Kind}
 use Rattle.client_tags.specs.declared.Kind.TheVariants.{Preference}
 use Rattle.sync_values.specs.declared.edit.Edit.{Edit as Change}
-use Rattle.sync_messages.specs.Spellings.{to_bytes, from_bytes}
 use Rattle.sync_model.specs.declared.event.Event.{Event}
 use Rattle.sync_model.specs.declared.event.Event.TheVariants.{Edit, Turn, Gather, Post, Ask, Offer, Deliver, Answer}
 use Rattle.sync_model.specs.declared.event.EventOutcome.{EventOutcome}
-use Rattle.sync_model.specs.declared.event.EventOutcome.TheVariants.{Requested}
 use Rattle.sync_model.specs.declared.fate.Settlement.{Settlement}
 use Rattle.sync_model.specs.declared.message.Content.{Content}
 use Rattle.sync_model.specs.declared.message.Entry.{Entry}
@@ -19,14 +17,13 @@ use Rattle.sync_specifics.specs.Extras.{IsCanonicalEdit}
 use Rattle.sync_model.specs.Edits.{edit_kind}
 use Rattle.sync_model.specs.Receiving.{turn_effect, post_effect}
 use Rattle.sync_model.specs.Sending.{gather_effect, ask_effect, offer_effect}
-use Rattle.sync_model.specs.Worlds.{World, acted, stepped, outcome_at}
+use Rattle.sync_model.specs.Worlds.{World, acted, stepped}
 use Rattle.run_setting.specs.Hashed.{hashed}
-use Rattle.replay_messages.specs.Messages.{request_told, reply_told}
 use Rattle.replay_messages.specs.Records.{REQUEST, REPLY, framed, replied_bytes, recorded, wire_record}
 use Rattle.replay_world.specs.declared.happened.Happened.{Happened}
 use Rattle.replay_world.specs.declared.happened.Happened.TheVariants as kept
 use Rattle.replay_world.specs.Events.{IsNumber, CanStep}
-use Rattle.replay_world.specs.Outcomes.{history_at, served_reply, reply_of, outcome_of, outcomes_of, IsKept, AreKept, IsOfClient, IsQuiet, sent}
+use Rattle.replay_world.specs.Outcomes.{history_at, reply_of, outcome_of, outcomes_of, IsKept, AreKept, IsOfClient, IsQuiet, sent}
 use Rattle.replay_world.specs.Steps.{world_with, Acts, ActsAlone, Asks, Delivers, Receives, Steps}
 use Rattle.replay_world.proofs.Kept.{outcomes_long}
 

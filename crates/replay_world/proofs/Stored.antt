@@ -1,23 +1,18 @@
 -- The entries of a commit that were stored are those that the history gains.
-use Rattle.std.proofs.Common.{◌≡◌, ℕ, ◌+◌, ◌<◌, ◌≤◌, arith, Bool, true, false, cond, List, [], ◌∷◌, ◌++◌, length, drop, get_or, map, refl, sym, ap, subst, ◌∙◌, append_assoc}
+use Rattle.std.proofs.Common.{◌≡◌, ℕ, ◌+◌, ◌<◌, ◌≤◌, arith, Bool, true, false, cond, List, [], ◌∷◌, ◌++◌, length, drop, get_or, map, refl, sym, ap, ◌∙◌, append_assoc}
 use Rattle.std.proofs.lemmas.List.{append-nil, reverse-append, drop_more, drop_all}
 use Rattle.std.specs.Prelude.{reverse}
-use Rattle.std.specs.List.{AllByRecursion}
 use Rattle.sync_messages.specs.declared.message.EntryAnswer.{EntryAnswer}
-use Rattle.sync_messages.specs.declared.message.Outcome.{Outcome}
-use Rattle.sync_messages.specs.declared.message.Outcome.TheVariants as outcomes
 use Rattle.sync_model.specs.declared.message.Answer.{Answer}
 use Rattle.sync_model.specs.declared.message.Answer.TheVariants.{Success, Conflict, Invalid, OverQuota}
 use Rattle.sync_model.specs.declared.message.Call.{Call}
 use Rattle.sync_model.specs.declared.message.Call.TheVariants.{Commit, Updates}
 use Rattle.sync_model.specs.declared.message.Content.{Content}
 use Rattle.sync_model.specs.declared.message.Entry.{Entry}
-use Rattle.sync_model.specs.declared.message.Key.{Key}
 use Rattle.sync_model.specs.declared.message.Request.{Request}
-use Rattle.sync_model.specs.History.{last_version, answer_to, history_with, committed, answers_to, IsBased}
-use Rattle.sync_model.specs.Servers.{is_foreign, verdict_on, history_after, reply_to, history_served, NOT_MY_BIRTHDAY}
+use Rattle.sync_model.specs.History.{answer_to, history_with, committed, answers_to}
+use Rattle.sync_model.specs.Servers.{is_foreign, verdict_on, history_after, reply_to, history_served}
 use Rattle.sync_model.specs.Worlds.{STORE_BIRTHDAY, is_invalid_entry}
-use Rattle.sync_model.specs.Values.{same_key}
 use Rattle.loopback_server.specs.Messages.{told_answer, told_answers, told_verdict}
 use Rattle.loopback_server.specs.Messages.{entries_of as asked_of}
 use Rattle.replay_messages.specs.Forms.{form, call_formed, verdict_formed}

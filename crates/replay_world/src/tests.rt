@@ -110,3 +110,53 @@ fn a_commit_that_is_delivered_three_times_is_stored_once(rt: HostRuntime) -> Res
     );
     Ok(())
 }
+
+// Want of memory is not told where nothing is to be done.
+#[test]
+fn what_cannot_happen_is_void(rt: HostRuntime) -> Result<(), Fail> {
+    let alloc = rt.alloc();
+    let (client, kind) = (1, Kind::Preference);
+    let mut world = World::new(alloc, &plan(alloc, 1))?;
+    // Nothing is held, posted or waiting, and there is no such request.
+    assert_eq!(rt; go(&mut world, &Event::Offer { client })?, Stepped::Void);
+    assert_eq!(rt;
+        go(&mut world, &Event::Post { client, kind })?,
+        Stepped::Void
+    );
+    assert_eq!(rt;
+        go(&mut world, &Event::Turn { client, kind })?,
+        Stepped::Void
+    );
+    assert_eq!(rt;
+        go(&mut world, &Event::Deliver { event: 1 })?,
+        Stepped::Void
+    );
+    // A client that waits for a reply neither asks nor gathers.
+    assert_eq!(rt; go(&mut world, &Event::Ask { client })?, Stepped::Done);
+    assert_eq!(rt; go(&mut world, &Event::Ask { client })?, Stepped::Void);
+    assert_eq!(rt;
+        go(&mut world, &Event::Gather { client, kind })?,
+        Stepped::Void
+    );
+    // A reply reaches a client that waits for it, once.
+    assert_eq!(rt;
+        go(&mut world, &Event::Deliver { event: 5 })?,
+        Stepped::Done
+    );
+    assert_eq!(rt; go(&mut world, &Event::Answer { event: 8 })?, Stepped::Done);
+    assert_eq!(rt; go(&mut world, &Event::Answer { event: 8 })?, Stepped::Void);
+    Ok(())
+}
+
+#[test]
+fn an_edit_of_too_long_texts_is_void(rt: HostRuntime) -> Result<(), Fail> {
+    let alloc = rt.alloc();
+    let mut world = World::new(alloc, &plan(alloc, 1))?;
+    // Its name has one byte.
+    let long = vec![in alloc; b'v'; 16_384]?;
+    let edit = set_a(alloc, &long)?;
+    assert_eq!(rt; go(&mut world, &edit)?, Stepped::Void);
+    let edit = set_a(alloc, &long[1..])?;
+    assert_eq!(rt; go(&mut world, &edit)?, Stepped::Done);
+    Ok(())
+}

@@ -1,4 +1,4 @@
-use Rattle.std.proofs.Common.{length, arith, sym, ◌∙◌, ap}
+use Rattle.std.proofs.Common.{length, arith, ap}
 use Rattle.replay_world.proofs.Stored.{stored_more, stored_none, stored_all}
 use Rattle.replay_world.proofs.copies.keep_stored.Goals as goal
 

@@ -1,4 +1,4 @@
-use Rattle.std.proofs.Common.{ap, ◌∙◌}
+use Rattle.std.proofs.Common.{ap}
 use Rattle.loopback_server.specs.Servers.{Served}
 use Rattle.replay_world.proofs.Served.{counted_more, taken_back}
 use Rattle.replay_world.proofs.run_server.handle.Goals as goal

@@ -4,7 +4,7 @@ use Rattle.sync_model.specs.Changes.{change_effect}
 use Rattle.sync_model.specs.Receiving.{turn_effect, post_effect}
 use Rattle.sync_model.specs.Sending.{gather_effect, ask_effect, offer_effect}
 use Rattle.run_setting.specs.Hashed.{hashed}
-use Rattle.replay_world.specs.Steps.{Acts, ActsAlone, Asks, Delivers, Receives, Steps}
+use Rattle.replay_world.specs.Steps.{Acts, ActsAlone, Asks, Delivers, Receives}
 use Rattle.replay_world.proofs.StepLemmas.{edit_steps, turn_steps, gather_steps, post_steps, ask_steps, offer_steps, deliver_steps, answer_steps}
 use Rattle.replay_world.proofs.step.happen.Goals as goal
 

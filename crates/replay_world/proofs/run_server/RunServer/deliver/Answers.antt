@@ -1,16 +1,14 @@
-use Rattle.std.proofs.Common.{◌≡◌, ◌<◌, ◌^◌, ◌++◌, List, length, arith, sym, ap, subst, ◌∙◌}
+use Rattle.std.proofs.Common.{◌++◌, List, arith, ap, subst, ◌∙◌}
 use Rattle.std.specs.Prelude.{reverse}
 use Rattle.std.proofs.lemmas.List.{length-reverse}
-use Rattle.sync_messages.specs.declared.message.FromServer.{FromServer}
-use Rattle.sync_messages.specs.declared.message.ToServer.{ToServer}
 use Rattle.sync_model.specs.declared.message.Content.{Content}
 use Rattle.sync_model.specs.declared.message.Entry.{Entry}
-use Rattle.sync_model.specs.Servers.{reply_to, history_served}
+use Rattle.sync_model.specs.Servers.{history_served}
 use Rattle.sync_model.specs.Worlds.{STORE_BIRTHDAY, is_invalid_entry}
-use Rattle.replay_messages.specs.Messages.{request_told, reply_told}
-use Rattle.replay_world.specs.Copies.{entries_of, answers_of, stored_by}
+use Rattle.replay_messages.specs.Messages.{request_told}
+use Rattle.replay_world.specs.Copies.{stored_by}
 use Rattle.replay_world.specs.Outcomes.{served_reply, IsReply}
-use Rattle.replay_world.proofs.Served.{stored_based, reply_is, stored_is, still_server, told_reply, kept_writes}
+use Rattle.replay_world.proofs.Served.{stored_based, stored_is, still_server, told_reply, kept_writes}
 use Rattle.replay_world.proofs.run_server.RunServer.deliver.Goals as goal
 
 pub handle-requires : goal.handle-requires
