@@ -1,10 +1,14 @@
 -- What the cause of a status says where the source tells its input.
-use Rattle.std.proofs.Common.{◌≡◌, ℕ, ◌<◌, ◌≤◌, List, length, refl, subst, inl, inr, arith}
+use Rattle.std.proofs.Common.{◌≡◌, ℕ, ◌<◌, ◌≤◌, List, length, refl, sym, subst, inl, inr, arith}
 use Rattle.std.specs.Prelude.{Option, Some, IfSome}
 use Rattle.outer_edge.specs.Source.{IsAllOf}
+use Rattle.sync_program.specs.declared.refusal.Refusal.{Refusal}
+use Rattle.sync_program.specs.declared.refusal.Refusal.TheVariants as refusals
 use Rattle.sync_program.specs.declared.status.Status.{Status}
 use Rattle.sync_program.specs.declared.status.Status.TheVariants.{Ok, Usage, BadSchedule, ReadFault, WriteFault, NoMemory, TooBig, BadMessage}
-use Rattle.sync_program.specs.Outside.{Reading, Writing, SourceFailed, SinkFailed, GaveText, GaveInput, GaveTooMuch, TellsInput, TellsTooMuch, Wrote, IsCutShort, Printed}
+use Rattle.sync_program.specs.Outside.{Reading, Writing, SourceFailed, SinkFailed, GaveText, GaveWithin, GaveInput, GaveTooMuch, TellsInput, TellsTooMuch, Wrote, IsCutShort, Printed}
+use Rattle.sync_program.specs.Texts.{bad_schedule_line, bad_message_line}
+use Rattle.sync_program.specs.Refusals.{IsAnswered, IsRefusalOf}
 use Rattle.sync_program.specs.Work.{Work, IsDetermined, HasCause, GivesOutput, GivesRefusal, RefusesLength, IsOkOrNoMemory}
 
 -- what the source gave is what it told
@@ -16,6 +20,42 @@ is_told r input told gave tells =
 told_holds : {S : Type 0} (r : Reading S) (limit : ℕ) (Holds : List ℕ → Type 0) (told : List ℕ)
     → GaveInput r limit Holds → r.left r.before ≡ Some told → Holds told
 told_holds r limit Holds told gave tells = subst Holds (is_told r gave.input told gave.gave tells) gave.holds
+
+-- the source gave an input within the limit, and did not fail
+pub input_within : {S : Type 0} (r : Reading S) (limit : ℕ) (Holds : List ℕ → Type 0) → GaveInput r limit Holds → GaveWithin r limit
+input_within r limit Holds gave = record {
+  gave = record { piece = gave.input; gave = gave.gave.gave; at_most = gave.within };
+  no_fault = gave.gave.no_fault;
+}
+
+-- a refusal with its cause, once it was answered, is the cause of its status
+pub cause_of_refusal : (work : Work) {S O : Type 0} (refusal : Refusal) (status : Status) (r : Reading S) (w : Writing O)
+    → IsRefusalOf work refusal r → IsAnswered refusal status w → HasCause work status r w
+cause_of_refusal work refusals.UnknownWords status r w is answered = absurd is
+cause_of_refusal work (refusals.BadSchedule line reason) status r w is answered =
+    elim answered [
+      | inl told ↦
+          subst (λ (status : Status). HasCause work status r w) (sym told.0)
+          (is.0, record { line = bad_schedule_line line reason; gave = is.1; printed = told.1 })
+      | inr lacking ↦
+          subst (λ (status : Status). HasCause work status r w) (sym lacking.0)
+          (input_within r work.limit (λ input. work.Refuses input (bad_schedule_line line reason)) is.1, lacking.1)
+    ]
+cause_of_refusal work (refusals.BadMessage fault) status r w is answered =
+    elim answered [
+      | inl told ↦
+          subst (λ (status : Status). HasCause work status r w) (sym told.0)
+          (is.0, record { line = bad_message_line fault; gave = is.1; printed = told.1 })
+      | inr lacking ↦
+          subst (λ (status : Status). HasCause work status r w) (sym lacking.0)
+          (input_within r work.limit (λ input. work.Refuses input (bad_message_line fault)) is.1, lacking.1)
+    ]
+cause_of_refusal work refusals.ReadFault status r w is answered =
+    subst (λ (status : Status). HasCause work status r w) (sym answered.0) (is, answered.1)
+cause_of_refusal work refusals.NoMemory status r w is answered =
+    subst (λ (status : Status). HasCause work status r w) (sym answered.0) (is, answered.1)
+cause_of_refusal work refusals.TooBig status r w is answered =
+    subst (λ (status : Status). HasCause work status r w) (sym answered.0) (is, answered.1)
 
 -- what is told is no longer than what the source gave
 told_within : {S : Type 0} (r : Reading S) (limit : ℕ) (Holds : List ℕ → Type 0) (told : List ℕ)

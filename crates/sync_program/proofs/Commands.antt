@@ -1,6 +1,7 @@
 -- What is said of the command that was run is said of each command with the same words.
-use Rattle.std.proofs.Common.{◌≡◌, ℕ, List, [], length, get_or, refl, ap, sym, subst, ◌∙◌, arith}
+use Rattle.std.proofs.Common.{◌≡◌, ℕ, ◌+◌, List, [], length, get_or, refl, ap, sym, subst, ◌∙◌, arith}
 use Rattle.std.specs.Prelude.{Option}
+use Rattle.outer_edge.specs.Source.{GaveUpTo}
 use Rattle.message_text.specs.declared.message.Direction.{Direction}
 use Rattle.message_text.specs.declared.message.Direction.TheVariants.{ToServer, FromServer}
 use Rattle.sync_model.specs.declared.event.Schedule.{Schedule}
@@ -13,11 +14,12 @@ use Rattle.sync_program.specs.declared.command.Look.TheVariants.{Check, Show}
 use Rattle.sync_program.specs.declared.command.WireCommand.{WireCommand}
 use Rattle.sync_program.specs.declared.status.Status.{Status}
 use Rattle.sync_program.specs.declared.status.Status.TheVariants.{BadSchedule, BadMessage}
-use Rattle.sync_program.specs.Command.{look_word, direction_word, words_of, work_of}
+use Rattle.sync_program.specs.Command.{look_word, direction_word, words_of, work_of, AreUnknown, IsUnknown}
 use Rattle.sync_program.specs.Texts.{bad_schedule_line}
 use Rattle.sync_program.specs.Outside.{Reading, Writing, SourceFailed, SinkFailed, TellsInput, TellsTooMuch}
 use Rattle.sync_program.specs.Work.{Work, HasCause, GivesOutput, GivesRefusal, RefusesLength, IsOkOrNoMemory}
 use Rattle.sync_program.specs.Wire.{MAX_MESSAGE, IsLookedInto, IsNoMessage, looking}
+use Rattle.sync_program.specs.Starting.{IsRun}
 use Rattle.sync_program.specs.Replay.{MAX_TEXT, IsReplayed, TellsSchedule, report_of, replaying}
 
 -- one word says one way to look
@@ -114,4 +116,48 @@ wire_runs command status r w gives cause refuses refuses_length completes = reco
   refuses = refuses;
   refuses_length = refuses_length;
   completes = completes;
+}
+
+-- words of a command are not unknown
+known_words : (made : Command) (words : List (List ℕ)) → words ≡ words_of made → AreUnknown words → ⊥
+known_words made words is_made unknown = unknown made is_made
+
+-- a schedule gives just its report, whatever command was run for its words
+pub replays_named : {S O : Type 0} (status : Status) (r : Reading S) (w : Writing O) (made : Command) (words : List (List ℕ))
+    → words ≡ words_of made → (made ≡ Replay → (schedule : Schedule) → TellsSchedule (r.left r.before) schedule → GivesOutput (report_of schedule) status r w)
+    → words ≡ words_of Replay → (schedule : Schedule) → TellsSchedule (r.left r.before) schedule → GivesOutput (report_of schedule) status r w
+replays_named status r w made words is_made replays is_named = replays (same_command made Replay (sym is_made ∙ is_named))
+
+-- what is said of the command that was run is said of its words
+pub run_of : {S O : Type 0} (status : Status) (r : Reading S) (w : Writing O) (made : Command) (words : List (List ℕ))
+    → words ≡ words_of made → Runs (work_of made) status r w → GaveUpTo r.left r.came r.before r.now ((work_of made).limit + 1)
+    → (made ≡ Replay → (schedule : Schedule) → TellsSchedule (r.left r.before) schedule → GivesOutput (report_of schedule) status r w)
+    → IsRun words status r w
+run_of status r w made words is_made runs gave replays = record {
+  replays = replays_named status r w made words is_made replays;
+  gives = λ command named. (runs_named status r w made command words is_made named runs).gives;
+  cause = λ command named. (runs_named status r w made command words is_made named runs).cause;
+  other_words = λ unknown. absurd (known_words made words is_made unknown);
+  refuses = λ command named. (runs_named status r w made command words is_made named runs).refuses;
+  refuses_length = λ command named. (runs_named status r w made command words is_made named runs).refuses_length;
+  completes = λ command named. (runs_named status r w made command words is_made named runs).completes;
+  gave_some = λ command named. for_named (λ (named : Command). GaveUpTo r.left r.came r.before r.now ((work_of named).limit + 1)) made command words is_made named gave;
+}
+
+-- looking into a message is no replay
+pub wire_is_no_replay : (command : WireCommand) → Wire command ≡ Replay → ⊥
+wire_is_no_replay command same = absurd (omega (arith, ap (λ (named : Command). length (words_of named)) same))
+
+-- words of no command were refused
+pub run_of_none : {S O : Type 0} (status : Status) (r : Reading S) (w : Writing O) (words : List (List ℕ)) → AreUnknown words
+    → IsUnknown status r w → IsRun words status r w
+run_of_none status r w words unknown refused = record {
+  replays = λ named. absurd (unknown Replay named);
+  gives = λ command named. absurd (unknown command named);
+  cause = λ command named. absurd (unknown command named);
+  other_words = λ _. refused;
+  refuses = λ command named. absurd (unknown command named);
+  refuses_length = λ command named. absurd (unknown command named);
+  completes = λ command named. absurd (unknown command named);
+  gave_some = λ command named. absurd (unknown command named);
 }

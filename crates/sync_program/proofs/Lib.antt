@@ -5,3 +5,4 @@ pub mod Causes
 pub mod Works
 pub mod Replaying
 pub mod Commands
+pub mod Starts

@@ -6,3 +6,4 @@ pub mod Replay
 pub mod Wire
 pub mod Command
 pub mod Refusals
+pub mod Starting

@@ -1,7 +1,7 @@
 -- What a run did to its source and to its sink.
 use Rattle.std.specs.Prelude.{◌≡◌, ℕ, ◌+◌, ◌<◌, ◌≤◌, ◌⊎◌, List, length, take, Option, Some, IfSome}
 use Rattle.outer_edge.specs.Faults.{Rose}
-use Rattle.outer_edge.specs.Source.{Grew, Gave, GaveCount, IsAllOf, IsAtEnd}
+use Rattle.outer_edge.specs.Source.{Grew, Gave, GaveUpTo, GaveCount, IsAllOf, IsAtEnd}
 
 -- a source before a run and now, with what it tells: the bytes that are left and that came, and its faults
 pub record Reading (S : Type 0) : Type 0 where
@@ -34,11 +34,17 @@ SourceFailed r = Rose (r.faults r.before) (r.faults r.now)
 abbrev pub SinkFailed : {O : Type 0} → Writing O → Type 0
 SinkFailed w = Rose (w.faults w.before) (w.faults w.now)
 
--- the source was read to its end; what it gave is this text, and was all that it had left
+-- the source was read to its end without a fault; what it gave is this text, and was all that it had left
 pub record GaveText {S : Type 0} (r : Reading S) (text : List ℕ) : Type 0 where
   pub gave : Gave r.left r.came r.before r.now text
   pub is_all : IsAllOf (r.left r.before) text
   pub ended : IsAtEnd (r.left r.now)
+  pub no_fault : r.faults r.now ≡ r.faults r.before
+
+-- the source gave at most so many bytes, and did not fail
+pub record GaveWithin {S : Type 0} (r : Reading S) (limit : ℕ) : Type 0 where
+  pub gave : GaveUpTo r.left r.came r.before r.now limit
+  pub no_fault : r.faults r.now ≡ r.faults r.before
 
 -- the source gave an input of at most so many bytes, and this holds of it
 pub record GaveInput {S : Type 0} (r : Reading S) (limit : ℕ) (Holds : List ℕ → Type 0) : Type 0 where

@@ -12,7 +12,7 @@ use Rattle.sync_program.specs.declared.refusal.Refusal.TheVariants.{UnknownWords
 use Rattle.sync_program.specs.declared.status.Status.{Status}
 use Rattle.sync_program.specs.declared.status.Status.TheVariants.{Usage, BadSchedule as Schedule, ReadFault as Read, NoMemory as Memory, TooBig as Big, BadMessage as Message}
 use Rattle.sync_program.specs.Texts.{unknown_words_line, bad_schedule_line, bad_message_line, read_fault_line, no_memory_line, too_big_line}
-use Rattle.sync_program.specs.Outside.{Reading, Writing, SourceFailed, GaveInput, GaveTooMuch, Printed}
+use Rattle.sync_program.specs.Outside.{Reading, Writing, SourceFailed, GaveWithin, GaveInput, GaveTooMuch, Printed}
 use Rattle.sync_program.specs.Work.{Work}
 
 -- A refusal has its status, and its line was printed. Memory may be wanting for the line of a bad schedule or of a bad
@@ -35,7 +35,7 @@ IsRefusalOf work (BadSchedule line reason) r =
 IsRefusalOf work (BadMessage fault) r =
     (work.refusal ≡ Message) × GaveInput r work.limit (λ input. work.Refuses input (bad_message_line fault))
 IsRefusalOf work ReadFault r = SourceFailed r
-IsRefusalOf work NoMemory r = Unit {0}
+IsRefusalOf work NoMemory r = GaveWithin r work.limit
 IsRefusalOf work TooBig r = GaveTooMuch r work.limit
 
 -- the refusal of a reading that ended so

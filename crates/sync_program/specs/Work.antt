@@ -3,7 +3,7 @@ use Rattle.std.specs.Prelude.{◌≡◌, ℕ, ◌⊎◌, List}
 use Rattle.sync_program.specs.declared.status.Status.{Status}
 use Rattle.sync_program.specs.declared.status.Status.TheVariants.{Ok, Usage, BadSchedule, ReadFault, WriteFault, NoMemory, TooBig, BadMessage}
 use Rattle.sync_program.specs.Texts.{read_fault_line, no_memory_line, too_big_line}
-use Rattle.sync_program.specs.Outside.{Reading, Writing, SourceFailed, GaveInput, GaveTooMuch, Wrote, IsCutShort, Printed}
+use Rattle.sync_program.specs.Outside.{Reading, Writing, SourceFailed, GaveWithin, GaveInput, GaveTooMuch, Wrote, IsCutShort, Printed}
 
 -- how many bytes an input may have, which output an input gives, and with which status and line one is refused
 pub record Work : Type 1 where
@@ -36,14 +36,15 @@ pub record IsRefusalTold {S O : Type 0} (work : Work) (r : Reading S) (w : Writi
   pub gave : GaveInput r work.limit (λ input. work.Refuses input line)
   pub printed : Printed w line
 
--- the cause of a status, and what was printed then; a command that has begun is not refused for its words
+-- The cause of a status, and what was printed then. A command that has begun is not refused for its words, and where
+-- the source failed or gave too much, that is told, and not want of memory.
 abbrev pub HasCause : {S O : Type 0} → Work → Status → Reading S → Writing O → Type 0
 HasCause work Ok r w = IsDone work r w
 HasCause work Usage r w = ⊥
 HasCause work BadSchedule r w = (work.refusal ≡ BadSchedule) × IsRefusalTold work r w
 HasCause work ReadFault r w = SourceFailed r × Printed w read_fault_line
 HasCause work WriteFault r w = IsDoneInPart work r w
-HasCause work NoMemory r w = Printed w no_memory_line
+HasCause work NoMemory r w = GaveWithin r work.limit × Printed w no_memory_line
 HasCause work TooBig r w = GaveTooMuch r work.limit × Printed w too_big_line
 HasCause work BadMessage r w = (work.refusal ≡ BadMessage) × IsRefusalTold work r w
 

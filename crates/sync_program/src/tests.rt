@@ -5,7 +5,9 @@ use outer_edge::{MemorySink, MemorySource, Words};
 use std::alloc::Global;
 use std::test::Fail;
 
+mod large;
 mod replay;
+mod start;
 mod wire;
 
 // How a run ended, and what its sink took.
@@ -28,7 +30,7 @@ fn run_over(
         words.push(word)?;
     }
     let mut input = MemorySource::new(bytes, failing_reads.to_vec(alloc)?);
-    let mut output = MemorySink::new(alloc, 4096, failing_writes.to_vec(alloc)?)?;
+    let mut output = MemorySink::new(alloc, 1_048_576, failing_writes.to_vec(alloc)?)?;
     let status = run(alloc, &words, &mut input, &mut output);
     Ok(Outcome { status, output })
 }

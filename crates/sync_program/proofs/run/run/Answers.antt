@@ -1,58 +1,23 @@
-use Rattle.std.proofs.Common.{ap, ◌∙◌}
+use Rattle.std.proofs.Common.{refl, ap, ◌∙◌}
 use Rattle.sync_program.specs.declared.command.Command.TheVariants.{Replay, Wire}
 use Rattle.sync_program.specs.Command.{words_of}
-use Rattle.sync_program.proofs.Commands.{runs_named, replay_runs, wire_runs}
+use Rattle.sync_program.proofs.Commands.{run_of, run_of_none, replay_runs, wire_runs, wire_is_no_replay}
 use Rattle.sync_program.proofs.run.run.Goals as goal
 
-pub returns-in-Some-Replay-clause-gives : goal.returns-in-Some-Replay-clause-gives
-returns-in-Some-Replay-clause-gives g c = λ command named.
+pub returns-in-Some-Replay-clause-run : goal.returns-in-Some-Replay-clause-run
+returns-in-Some-Replay-clause-run g c =
     let told = c.run_replay.ensures in
-    (runs_named c.run_replay.result _ _ Replay command c.args.words.now
-    (c.in-Some-Replay.ensures ∙ ap words_of c.in-Some-Replay.field-0-is) named
-    (replay_runs c.run_replay.result _ _ told.replays told.cause told.refuses told.refuses_length told.completes)).gives
+    run_of c.run_replay.result _ _ Replay c.args.words.now (c.in-Some-Replay.ensures ∙ ap words_of c.in-Some-Replay.field-0-is)
+    (replay_runs c.run_replay.result _ _ told.replays told.cause told.refuses told.refuses_length told.completes) told.gave_some (λ _. told.replays)
 
-pub returns-in-Some-Replay-clause-refuses : goal.returns-in-Some-Replay-clause-refuses
-returns-in-Some-Replay-clause-refuses g c = λ command named.
-    let told = c.run_replay.ensures in
-    (runs_named c.run_replay.result _ _ Replay command c.args.words.now
-    (c.in-Some-Replay.ensures ∙ ap words_of c.in-Some-Replay.field-0-is) named
-    (replay_runs c.run_replay.result _ _ told.replays told.cause told.refuses told.refuses_length told.completes)).refuses
-
-pub returns-in-Some-Replay-clause-completes : goal.returns-in-Some-Replay-clause-completes
-returns-in-Some-Replay-clause-completes g c = λ command named.
-    let told = c.run_replay.ensures in
-    (runs_named c.run_replay.result _ _ Replay command c.args.words.now
-    (c.in-Some-Replay.ensures ∙ ap words_of c.in-Some-Replay.field-0-is) named
-    (replay_runs c.run_replay.result _ _ told.replays told.cause told.refuses told.refuses_length told.completes)).completes
-
-pub returns-in-Some-Wire-clause-gives : goal.returns-in-Some-Wire-clause-gives
-returns-in-Some-Wire-clause-gives g c = λ command named.
+pub returns-in-Some-Wire-clause-run : goal.returns-in-Some-Wire-clause-run
+returns-in-Some-Wire-clause-run g c =
     let told = c.run_wire.ensures in
-    (runs_named c.run_wire.result _ _ (Wire c.in-Some-Wire.command) command c.args.words.now
-    (c.in-Some-Wire.ensures ∙ ap words_of c.in-Some-Wire.field-0-is) named
-    (wire_runs c.in-Some-Wire.command c.run_wire.result _ _ told.gives told.cause told.refuses told.refuses_length told.completes)).gives
+    run_of c.run_wire.result _ _ (Wire c.in-Some-Wire.command) c.args.words.now (c.in-Some-Wire.ensures ∙ ap words_of c.in-Some-Wire.field-0-is)
+    (wire_runs c.in-Some-Wire.command c.run_wire.result _ _ told.gives told.cause told.refuses told.refuses_length told.completes) told.gave_some
+    (λ same. absurd (wire_is_no_replay c.in-Some-Wire.command same))
 
-pub returns-in-Some-Wire-clause-cause : goal.returns-in-Some-Wire-clause-cause
-returns-in-Some-Wire-clause-cause g c = λ command named.
-    let told = c.run_wire.ensures in
-    (runs_named c.run_wire.result _ _ (Wire c.in-Some-Wire.command) command c.args.words.now
-    (c.in-Some-Wire.ensures ∙ ap words_of c.in-Some-Wire.field-0-is) named
-    (wire_runs c.in-Some-Wire.command c.run_wire.result _ _ told.gives told.cause told.refuses told.refuses_length told.completes)).cause
-
-pub returns-in-Some-Wire-clause-refuses : goal.returns-in-Some-Wire-clause-refuses
-returns-in-Some-Wire-clause-refuses g c = λ command named.
-    let told = c.run_wire.ensures in
-    (runs_named c.run_wire.result _ _ (Wire c.in-Some-Wire.command) command c.args.words.now
-    (c.in-Some-Wire.ensures ∙ ap words_of c.in-Some-Wire.field-0-is) named
-    (wire_runs c.in-Some-Wire.command c.run_wire.result _ _ told.gives told.cause told.refuses told.refuses_length told.completes)).refuses
-
-pub returns-in-Some-Wire-clause-completes : goal.returns-in-Some-Wire-clause-completes
-returns-in-Some-Wire-clause-completes g c = λ command named.
-    let told = c.run_wire.ensures in
-    (runs_named c.run_wire.result _ _ (Wire c.in-Some-Wire.command) command c.args.words.now
-    (c.in-Some-Wire.ensures ∙ ap words_of c.in-Some-Wire.field-0-is) named
-    (wire_runs c.in-Some-Wire.command c.run_wire.result _ _ told.gives told.cause told.refuses told.refuses_length told.completes)).completes
-
--- the words are those of no command
-pub returns-in-None-clause-replays : goal.returns-in-None-clause-replays
-returns-in-None-clause-replays g c = λ named schedule tells. absurd (c.in-None.ensures Replay named)
+pub returns-in-None-clause-run : goal.returns-in-None-clause-run
+returns-in-None-clause-run g c =
+    run_of_none c.refuse.result _ _ c.args.words.now c.in-None.ensures
+    record { is_usage = c.refuse.ensures.answered.0; is_untouched = refl; printed = c.refuse.ensures.answered.1 }
