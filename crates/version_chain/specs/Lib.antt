@@ -1,0 +1,5 @@
+pub mod Slots
+pub mod Links
+pub mod Queues
+pub mod Chains
+pub mod Nodes
