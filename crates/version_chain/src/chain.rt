@@ -1,5 +1,5 @@
 //! Items by ascending version, of which each keeps its slot.
-ghost use Rattle.std.specs.Prelude.{◌≡◌, ℕ, ◌<◌, ◌≤◌, ◌+◌, ◌-◌, ◌==◌, [], ◌∷◌, ◌++◌, length, Some, IfOk, OnOk, OnErr};
+ghost use Rattle.std.specs.Prelude.{◌≡◌, ℕ, ◌<◌, ◌≤◌, ◌+◌, ◌-◌, ◌==◌, [], ◌∷◌, ◌++◌, length, Some, IfOk, IsOk, OnOk, OnErr};
 ghost use Rattle.version_chain.specs.Chains.{without_slot, item_at, slots_since, count_since, AreAscending, IsAbove, AreSlots, greatest};
 ghost use Rattle.version_chain.specs.Nodes.{IsFound};
 
@@ -62,6 +62,7 @@ impl<T> Chain<T> {
         ensures room { OnOk result (more ≤ self.new.spare) }
         ensures grows { self.old.spare ≤ self.new.spare }
         ensures entries { self.new.entries ≡ self.old.entries }
+        ensures succeeds { more ≤ self.old.spare → IsOk result }
     {
         let Some(len) = self.nodes.len().checked_add(more) else {
             return Err(NoMemory);

@@ -1,5 +1,5 @@
 //! Slots in a row that is linked both ways, so that one leaves its place in constant time.
-ghost use Rattle.std.specs.Prelude.{◌≡◌, ◌≢◌, ℕ, ◌+◌, ◌<◌, ◌≤◌, max, [], ◌∷◌, ◌++◌, length, Option, None, Some, OnOk, OnErr, slice_index_or};
+ghost use Rattle.std.specs.Prelude.{◌≡◌, ◌≢◌, ℕ, ◌+◌, ◌<◌, ◌≤◌, max, [], ◌∷◌, ◌++◌, length, Option, None, Some, IsOk, OnOk, OnErr, slice_index_or};
 ghost use Rattle.std.specs.List.{AllByRecursion};
 ghost use Rattle.version_chain.specs.Slots.{IsAmong, AreApart, without, first_of, last_of, after, before};
 ghost use Rattle.version_chain.specs.Links.{no_link, next_of, previous_of, IsPlace, Joins, AreKept, Skips, Appends};
@@ -151,6 +151,7 @@ impl LinkedSlots {
         ensures grows { self.old.room ≤ self.new.room }
         ensures most { self.new.room ≤ max self.old.room (slot + 1) }
         ensures slots { self.new.slots ≡ self.old.slots }
+        ensures succeeds { slot < self.old.room → IsOk result }
         ensures err { OnErr result (self.new ≡ self.old) }
     {
         if slot < self.links.len() {

@@ -1,5 +1,5 @@
 //! A queue of slots, of which each may leave from its place.
-ghost use Rattle.std.specs.Prelude.{◌≡◌, ◌+◌, ◌<◌, ◌≤◌, ◌==◌, max, [], ◌∷◌, ◌++◌, length, OnOk, OnErr};
+ghost use Rattle.std.specs.Prelude.{◌≡◌, ◌+◌, ◌<◌, ◌≤◌, ◌==◌, max, [], ◌∷◌, ◌++◌, length, IsOk, OnOk, OnErr};
 ghost use Rattle.version_chain.specs.Slots.{IsAmong, without, first_of, after};
 
 use crate::links::LinkedSlots;
@@ -41,6 +41,7 @@ impl DueQueue {
         ensures grows { self.old.room ≤ self.new.room }
         ensures most { self.new.room ≤ max self.old.room (slot + 1) }
         ensures slots { self.new.slots ≡ self.old.slots }
+        ensures succeeds { slot < self.old.room → IsOk result }
         ensures err { OnErr result (self.new ≡ self.old) }
     {
         self.slots.reserve(slot)
