@@ -11,7 +11,7 @@ use Rattle.std.proofs.lemmas.List.Folds.{flat_map-map}
 use Rattle.std.proofs.lemmas.Slice.{take-put_mid}
 use Rattle.std.proofs.Math.Seq.{take-append-add}
 use borrow.Rule.Slice.PartMut.{put_mid, same_len_mid}
-use Rattle.key_derivation.specs.Pbkdf2.{first_text, block_of, blocks, pbkdf2}
+use Rattle.key_derivation.specs.Pbkdf2.{first_text, xor_of_turns, block_of, blocks, pbkdf2}
 use Rattle.key_derivation.proofs.Turns.{length-xor_of_turns}
 
 -- so many words of a hash value are four times as many bytes
@@ -78,3 +78,8 @@ filled_all pass salt out turns size count long is_count filled =
     sym (take_all (20 * count) out (omega (arith, (div_ceil_times size 20 (lit< tt)).0, long, is_count)))
     ∙ filled
     ∙ ap (λ (n : ℕ). take size (blocks pass salt turns n)) (sym is_count)
+
+-- a key of 16 bytes is the front of the first block
+pub first_key : (pass salt : List ℕ) (turns : ℕ) → take 16 (xor_of_turns (hmac sha1 pass) (first_text salt 1) turns) ≡ pbkdf2 pass salt turns 16
+unfolding pbkdf2
+first_key pass salt turns = ap (take 16) (sym (append-nil (block_of pass salt turns 1)))

@@ -2,3 +2,4 @@ pub mod DerivedKeys
 pub mod Hmac
 pub mod Keyed
 pub mod Pbkdf2
+pub mod Turning

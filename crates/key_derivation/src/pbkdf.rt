@@ -1,10 +1,11 @@
 // PBKDF2 (RFC 8018, 5.2) with HMAC-SHA-1 as its pseudorandom function.
 
-ghost use Rattle.std.specs.Prelude.{◌≡◌, ℕ, ◌^◌, ◌<◌, ◌≤◌, List, [], length};
+ghost use Rattle.std.specs.Prelude.{◌≡◌, ℕ, ◌+◌, ◌≤◌, List, [], length};
 ghost use Rattle.sha1.specs.Sha1.{sha1};
 ghost use Rattle.key_derivation.specs.Hmac.{hmac};
 ghost use Rattle.key_derivation.specs.Keyed.{Holds};
 ghost use Rattle.key_derivation.specs.Pbkdf2.{block_of, first_text, pbkdf2, xor_bytes};
+ghost use Rattle.key_derivation.specs.Turning.{IsAfter};
 
 use crate::hmac::HmacSha1;
 
@@ -35,13 +36,42 @@ fn derived_block(keyed: &HmacSha1, salt: &[u8], turns: u32, number: u32) -> [u8;
     requires { 1 ≤ turns }
     ensures { (pass : List ℕ) → Holds keyed.now pass [] → result ≡ block_of pass salt.now turns number }
 {
-    let mut value = first_turn(keyed, salt, number);
-    let mut block = value;
-    for _turn in 1..turns {
-        value = next_turn(keyed, &value);
-        xor_into(&mut block, &value);
+    let mut block = Block::first(keyed, salt, number);
+    block.turn(keyed, turns - 1);
+    block.bytes
+}
+
+/// A block of a derived key after some turns. Further turns go on from it.
+#[derive(Drop)]
+pub(crate) struct Block {
+    // U_n of the last turn.
+    value: [u8; DIGEST_LEN],
+    /// All turns so far, xored.
+    pub(crate) bytes: [u8; DIGEST_LEN],
+}
+
+impl Block {
+    /// Block `number` after one turn, from the state of the empty text under the password.
+    pub(crate) fn first(keyed: &HmacSha1, salt: &[u8], number: u32) -> Block
+        ensures { (pass : List ℕ) → Holds keyed.now pass [] → IsAfter result pass (first_text salt.now number) 1 }
+    {
+        let value = first_turn(keyed, salt, number);
+        Block {
+            value,
+            bytes: value,
+        }
     }
-    block
+
+    /// The block after so many further turns. A turn hashes two blocks of 64 bytes.
+    pub(crate) fn turn(&mut self, keyed: &HmacSha1, turns: u32)
+        ensures { (pass text : List ℕ) (before : ℕ) → 1 ≤ before → Holds keyed.now pass [] → IsAfter self.old pass text before
+            → IsAfter self.new pass text (before + turns) }
+    {
+        for _turn in 0..turns {
+            self.value = next_turn(keyed, &self.value);
+            xor_into(&mut self.bytes, &self.value);
+        }
+    }
 }
 
 // U_1: the HMAC of the salt and the block's number.
