@@ -8,7 +8,6 @@ use Rattle.base64.specs.GeneralPurpose.{decode_of, IsBytes}
 use Rattle.base64.proofs.EngineFacts.{decode_of_strict, decode_of-encode_of}
 use Rattle.base64.proofs.RoundTrip.{length-encode_symbols}
 use Rattle.client_tags.specs.Hashes.{hash_text, hash_bytes_of, twenty, IsHash, IsNoHashText}
-use Rattle.client_tags.specs.declared.hash.TagHash.{TagHash}
 
 decode_of-hash_text : (bytes : List ℕ) → IsHash bytes → decode_of standard (hash_text bytes) ≡ Ok bytes
 unfolding hash_text
@@ -36,19 +35,19 @@ pub text_of_decoded : (text bytes : List ℕ) → IsBytes text → decode_of sta
 unfolding hash_text
 text_of_decoded text bytes are_bytes decoded = decode_of_strict standard text bytes (refl, refl) are_bytes decoded
 
-abbrev the_hash : List ℕ → Option TagHash
-the_hash bytes = Some (record { bytes = bytes })
+abbrev the_hash : List ℕ → Option (List ℕ)
+the_hash bytes = Some bytes
 
 -- the hash of the bytes that a text decodes to is found in it, and no other
-pub one_found : (text bytes : List ℕ) → IsBytes text → decode_of standard text ≡ Ok bytes → (hash : TagHash) → IsHash hash.bytes
-    → (the_hash bytes ≡ Some hash) ↔ (text ≡ hash_text hash.bytes)
+pub one_found : (text bytes : List ℕ) → IsBytes text → decode_of standard text ≡ Ok bytes → (hash : List ℕ) → IsHash hash
+    → (the_hash bytes ≡ Some hash) ↔ (text ≡ hash_text hash)
 one_found text bytes are_bytes decoded hash is = (
   λ found.
-      let equal : bytes ≡ hash.bytes = cc found in
+      let equal : bytes ≡ hash = cc found in
       text_of_decoded text bytes are_bytes decoded ∙ ap hash_text equal,
   λ same.
-      let again : decode_of standard text ≡ Ok hash.bytes = ap (decode_of standard) same ∙ decode_of-hash_text hash.bytes is in
-      let equal : bytes ≡ hash.bytes = cc in
+      let again : decode_of standard text ≡ Ok hash = ap (decode_of standard) same ∙ decode_of-hash_text hash is in
+      let equal : bytes ≡ hash = cc in
       ap the_hash equal,
 )
 

@@ -4,7 +4,6 @@ use Rattle.sha1.specs.Sha1.{sha1}
 use Rattle.base64.specs.Engines.{standard}
 use Rattle.base64.specs.GeneralPurpose.{encode_of, decode_of}
 use Rattle.client_tags.specs.declared.Kind.{Kind}
-use Rattle.client_tags.specs.declared.hash.TagHash.{TagHash}
 use Rattle.client_tags.specs.Kinds.{specifics_prefix}
 
 -- the hash of a type's tag: SHA-1 (FIPS 180-4) over an empty specifics of the type and the tag
@@ -28,16 +27,9 @@ IsNoHashText text = (bytes : List ℕ) → IsHash bytes → text ≢ hash_text b
 abbrev pub twenty : List ℕ → Option (List ℕ)
 twenty bytes = if length bytes == 20 then Some bytes else None
 
--- the bytes that a text stands for by its base64, where they are twenty
+-- the hash of a text, if it is one's: the bytes that it stands for by its base64, where they are twenty
 unfoldable pub hash_bytes_of : List ℕ → Option (List ℕ)
 hash_bytes_of text = elim (decode_of standard text) as (λ decoded. Option (List ℕ)) [
   | Ok bytes ↦ twenty bytes
   | Err fault ↦ None
-]
-
--- the hash of a text, if it is one's
-abbrev pub hash_of_text : List ℕ → Option TagHash
-hash_of_text text = elim (hash_bytes_of text) as (λ bytes. Option TagHash) [
-  | None ↦ None
-  | Some bytes ↦ Some (record { bytes = bytes })
 ]

@@ -1,25 +1,52 @@
-ghost use Rattle.std.specs.Prelude.{◌≡◌, ◌↔◌, Ok, Some, IfSome, IfNone};
+ghost use Rattle.std.specs.Prelude.{◌≡◌, ◌↔◌, ℕ, List, Ok, Some, IfSome, IfNone};
 ghost use Rattle.base64.specs.Engines.{standard};
 ghost use Rattle.base64.specs.GeneralPurpose.{decode_of};
 ghost use Rattle.client_tags.specs.Kinds.{specifics_prefix};
-ghost use Rattle.client_tags.specs.Hashes.{tag_hash, hash_text, hash_of_text, hash_bytes_of, IsHash, IsNoHashText};
-ghost use Rattle.client_tags.specs.declared.hash.TagHash.{TagHash};
+ghost use Rattle.client_tags.specs.Hashes.{tag_hash, hash_text, hash_bytes_of, IsHash, IsNoHashText};
 
 use crate::Kind;
 use base64::engine::general_purpose::STANDARD;
 use sha1::Sha1;
+use std::marker::Model;
 
-/// The hash of a client tag, by which a server keeps an entity. It is ordered by its bytes.
+/// The hash of a client tag, by which a server keeps an entity. Contracts see it as the list of its bytes, and
+/// it is ordered as that list is.
 #[derive(Clone, Copy, Debug, PartialEq, Eq, PartialOrd, Ord, Hash)]
 pub struct TagHash {
-    pub bytes: [u8; 20],
+    bytes: [u8; 20],
+}
+
+impl Model for TagHash {
+    ghost use Rattle.std.specs.Prelude.{ℕ, List};
+
+    ghost Value = { List ℕ };
+
+    ghost view = { λ hash. hash.bytes };
+
+    ghost inverse = { λ bytes. record { bytes = bytes } };
 }
 
 impl TagHash {
+    /// The hash of these bytes.
+    pub fn from_bytes(bytes: [u8; 20]) -> TagHash
+        ensures { result ≡ bytes }
+    {
+        TagHash { bytes }
+    }
+
+    /// Its bytes.
+    pub fn as_bytes(&self) -> &[u8; 20]
+        ensures bytes { result.now ≡ self.now }
+        ensures is_hash { IsHash self.now }
+    {
+        are_hash_bytes(&self.bytes);
+        &self.bytes
+    }
+
     /// The hash as messages carry it.
     #[tactic(auto, unfolding(crate::specs::Hashes::hash_text))]
     pub fn text(&self) -> [u8; 28]
-        ensures { result ≡ hash_text self.now.bytes }
+        ensures { result ≡ hash_text self.now }
     {
         let mut text = [0; 28];
         // Twenty bytes take 28 characters, so this cannot fail.
@@ -31,14 +58,22 @@ impl TagHash {
     /// no bits set past the last byte.
     #[tactic(auto, using(crate::proofs::HashTexts::text_of_decoded))]
     pub fn from_text(text: &[u8]) -> Option<TagHash>
-        ensures is_hash { result ≡ hash_of_text text.now }
-        ensures found { (hash : TagHash) → IsHash hash.bytes → (result ≡ Some hash) ↔ (text.now ≡ hash_text hash.bytes) }
-        ensures some { IfSome result (λ hash. text.now ≡ hash_text hash.bytes) }
+        ensures is_hash { result ≡ hash_bytes_of text.now }
+        ensures found { (hash : List ℕ) → IsHash hash → (result ≡ Some hash) ↔ (text.now ≡ hash_text hash) }
+        ensures some { IfSome result (λ hash. text.now ≡ hash_text hash) }
         ensures none { IfNone result (IsNoHashText text.now) }
     {
         let bytes = hash_bytes(text)?;
         Some(TagHash { bytes })
     }
+}
+
+// Twenty bytes are those of a hash.
+fn are_hash_bytes(bytes: &[u8; 20])
+    ensures { IsHash bytes.now }
+{
+    // As a slice they are known to be bytes.
+    let _len = bytes.as_slice().len();
 }
 
 // The twenty bytes that a text of 28 characters stands for.
@@ -75,7 +110,7 @@ pub(crate) fn specifics_prefix(kind: Kind) -> [u8; 4]
 /// The hash of a type's tag, in time linear in the tag's length.
 #[tactic(auto, unfolding(crate::specs::Hashes::tag_hash))]
 pub fn tag_hash(kind: Kind, tag: &[u8]) -> TagHash
-    ensures { result.bytes ≡ tag_hash kind tag.now }
+    ensures { result ≡ tag_hash kind tag.now }
 {
     let mut hasher = Sha1::new();
     hasher.update(&specifics_prefix(kind));

@@ -17,7 +17,7 @@ pub fn login_hash(
     pass_element: &[u8],
     realm: &[u8],
 ) -> TagHash
-    ensures { result.bytes
+    ensures { result
         ≡ tag_hash password_kind (password_tag origin.now user_element.now user_value.now pass_element.now realm.now) }
 {
     let mut hasher = Sha1::new();
@@ -27,9 +27,7 @@ pub fn login_hash(
     hash_part(&mut hasher, user_value);
     hash_part(&mut hasher, pass_element);
     hash_part(&mut hasher, realm);
-    TagHash {
-        bytes: hasher.finalize(),
-    }
+    TagHash::from_bytes(hasher.finalize())
 }
 
 // A further text of a tag, behind the sign that parts it from the one before.

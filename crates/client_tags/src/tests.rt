@@ -92,12 +92,12 @@ fn a_hash_is_its_bytes(rt: HostRuntime) {
         0x88, 0xf5, 0x56, 0x41, 0x41, 0x35, 0x69, 0x35, 0xb6, 0x87, 0x05, 0x83, 0x7f, 0x8a, 0x71,
         0x31, 0x73, 0x26, 0x96, 0x7a,
     ];
-    assert_eq!(rt; tag_hash(Kind::Nigori, nigori_tag()).bytes, bytes);
+    assert_eq!(rt; *tag_hash(Kind::Nigori, nigori_tag()).as_bytes(), bytes);
     assert_eq!(rt;
         TagHash::from_text(b"iPVWQUE1aTW2hwWDf4pxMXMmlno="),
-        Some(TagHash { bytes })
+        Some(TagHash::from_bytes(bytes))
     );
-    assert!(rt; TagHash { bytes: [0; 20] } < TagHash { bytes });
+    assert!(rt; TagHash::from_bytes([0; 20]) < TagHash::from_bytes(bytes));
 }
 
 #[test]

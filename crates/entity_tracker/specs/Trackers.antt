@@ -11,7 +11,7 @@ due_above acked sequence = if nat_lt acked sequence then Some sequence else None
 -- a tracker's key, and what is known of it
 abbrev pub tracked : Inside → Tracked
 tracked tracker = record {
-  hash = tracker.hash.bytes;
+  hash = tracker.hash;
   state = record {
     known = tracker.known;
     base = tracker.base;

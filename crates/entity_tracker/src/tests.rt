@@ -7,7 +7,9 @@ use std::alloc::Global;
 use sync_values::{Password, Value};
 use wire_fields::Octets;
 
-const HASH: TagHash = TagHash { bytes: [7; 20] };
+fn the_hash() -> TagHash {
+    TagHash::from_bytes([7; 20])
+}
 
 fn login(alloc: Global, created: i64) -> Value
     ensures { result ≡ login_value (record { origin = []; user_element = []; user_value = []; pass_element = []; realm = []; secret = []; created = created; extra = [] }) }
@@ -46,7 +48,7 @@ fn state(tracker: &Tracker) -> (u64, i64, i64, Option<u64>) {
 fn offered(tracker: &Tracker) -> Option<(usize, u64, i64, u64)> {
     match tracker.offer() {
         Ok(offer) => Some((
-            offer.hash.len(),
+            offer.hash.as_bytes().len(),
             offer.known,
             made(&offer.value),
             offer.number,
@@ -60,7 +62,7 @@ fn update(alloc: Global, version: u64, value: Value) -> Update
     ensures value { result.value ≡ value }
 {
     Update {
-        hash: Octets::new(alloc),
+        hash: the_hash(),
         version,
         value,
         lock: None,
@@ -73,7 +75,7 @@ fn ack(alloc: Global, version: u64, value: Value, number: u64) -> Ack
     ensures number { result.number ≡ number }
 {
     Ack {
-        hash: Octets::new(alloc),
+        hash: the_hash(),
         version,
         value,
         number,
@@ -83,8 +85,8 @@ fn ack(alloc: Global, version: u64, value: Value, number: u64) -> Ack
 
 #[test]
 fn a_new_key_has_nothing(rt: HostRuntime) {
-    let tracker = Tracker::fresh(rt.alloc(), HASH);
-    assert_eq!(rt; tracker.hash(), HASH);
+    let tracker = Tracker::fresh(rt.alloc(), the_hash());
+    assert_eq!(rt; tracker.hash(), the_hash());
     assert_eq!(rt; tracker.sequence(), 0);
     assert_eq!(rt; tracker.acked(), 0);
     assert_eq!(rt; state(&tracker), (0, 0, 0, None));
@@ -94,7 +96,7 @@ fn a_new_key_has_nothing(rt: HostRuntime) {
 #[test]
 fn an_edit_is_sent_and_acknowledged(rt: HostRuntime) {
     let alloc = rt.alloc();
-    let mut tracker = Tracker::fresh(alloc, HASH);
+    let mut tracker = Tracker::fresh(alloc, the_hash());
     tracker.local_change(login(alloc, 1), 1);
     assert_eq!(rt; offered(&tracker), Some((20, 0, 1, 1)));
     tracker.local_change(login(alloc, 2), 3);
@@ -115,7 +117,7 @@ fn an_edit_is_sent_and_acknowledged(rt: HostRuntime) {
 #[test]
 fn an_edit_meets_writes_of_its_key(rt: HostRuntime) {
     let alloc = rt.alloc();
-    let mut tracker = Tracker::fresh(alloc, HASH);
+    let mut tracker = Tracker::fresh(alloc, the_hash());
     tracker.local_change(login(alloc, 1), 1);
     tracker.keep_local(update(alloc, 2, Value::Absent));
     assert_eq!(rt; state(&tracker), (2, 0, 1, Some(1)));
@@ -130,7 +132,7 @@ fn an_edit_meets_writes_of_its_key(rt: HostRuntime) {
 fn a_value_under_another_key_is_sealed_anew(rt: HostRuntime) {
     let alloc = rt.alloc();
     let name = Octets::new(alloc);
-    let mut tracker = Tracker::fresh(alloc, HASH);
+    let mut tracker = Tracker::fresh(alloc, the_hash());
     tracker.accept_remote(update(alloc, 4, login(alloc, 3)), login(alloc, 3));
     assert!(rt; tracker.needs_seal(Some(&name)));
     assert!(rt; !tracker.needs_seal(None));
@@ -169,7 +171,7 @@ fn an_offered_value_comes_back(rt: HostRuntime) {
     let alloc = rt.alloc();
     let one = login(alloc, 1);
     let two = login(alloc, 2);
-    let mut tracker = Tracker::fresh(alloc, HASH);
+    let mut tracker = Tracker::fresh(alloc, the_hash());
     tracker.local_change(login(alloc, 1), 1);
     assert!(rt; noted(&mut tracker));
     assert!(rt; !tracker.is_echo(&one));
@@ -187,7 +189,7 @@ fn an_offered_value_comes_back(rt: HostRuntime) {
 #[test]
 fn eight_offered_values_are_kept(rt: HostRuntime) {
     let alloc = rt.alloc();
-    let mut tracker = Tracker::fresh(alloc, HASH);
+    let mut tracker = Tracker::fresh(alloc, the_hash());
     for number in 1..10 {
         if number > tracker.sequence() {
             tracker.local_change(login(alloc, 5), number);

@@ -55,7 +55,7 @@ pub enum Acked {
 impl Tracker {
     /// A key of which nothing is known.
     pub fn fresh(alloc: Global, hash: TagHash) -> Tracker
-        ensures { result ≡ record { hash = hash.bytes; state = new_state; acked = 0 } }
+        ensures { result ≡ record { hash = hash; state = new_state; acked = 0 } }
     {
         Tracker {
             alloc,
@@ -72,7 +72,7 @@ impl Tracker {
 
     /// The hash of the key's tag.
     pub fn hash(&self) -> TagHash
-        ensures { result.bytes ≡ self.now.hash }
+        ensures { result ≡ self.now.hash }
     {
         self.hash
     }
@@ -283,7 +283,7 @@ impl Tracker {
         ensures { IfOk result (λ offer. offer ≡ offer_for self.now.hash self.now.state self.now.state.last_edit) }
     {
         Ok(Offer {
-            hash: Octets::from_slice(self.alloc, &self.hash.bytes)?,
+            hash: self.hash,
             known: self.known,
             value: self.own.copy()?,
             number: self.sequence,

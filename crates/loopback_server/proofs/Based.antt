@@ -6,7 +6,7 @@ use Rattle.sync_model.specs.declared.message.Call.{Call}
 use Rattle.sync_model.specs.declared.message.Entry.{Entry}
 use Rattle.sync_model.specs.History.{IsBased}
 use Rattle.sync_model.specs.Servers.{history_after, history_served}
-use Rattle.loopback_server.specs.Entries.{is_invalid}
+use Rattle.replay_messages.specs.Entries.{is_invalid}
 
 pub based_after : (before old new : List (Entry (Option Specifics))) (call : Call (Option Specifics)) → old ≡ before
     → new ≡ history_after is_invalid old call → IsBased before → IsBased new

@@ -12,10 +12,11 @@ use Rattle.sync_messages.specs.Laws.{FitsTypes, HaveCanonicalExtras, HasCanonica
 use Rattle.sync_model.specs.declared.message.Entry.{Entry}
 use Rattle.sync_model.specs.declared.message.Marker.{Marker}
 use Rattle.sync_model.specs.Servers.{wanted_writes, history_after, MAX_UPDATES}
-use Rattle.loopback_server.specs.Entries.{no_entry, entry_with, entry_by, entry_in, may_not_be_stored, stored, is_invalid}
+use Rattle.replay_messages.specs.Entries.{no_entry, entry_with, entry_by, entry_in, may_not_be_stored, stored, is_invalid}
 use Rattle.loopback_server.specs.Extras.{HoldsCanonicalExtra, HoldCanonicalExtras}
-use Rattle.loopback_server.specs.Messages.{told_entity, call_in}
-use Rattle.loopback_server.proofs.EachEntry.{all_of_first, all_mapped, HoldsOfCall, after_holds, wanted_holds}
+use Rattle.replay_messages.specs.Replies.{told_entity, call_in}
+use Rattle.sync_model.proofs.WantedWrites.{all_take}
+use Rattle.sync_model.proofs.EachEntry.{all_mapped, HoldsOfCall, after_holds, wanted_holds}
 
 stored_canonical : (deleted : Bool) (specifics : Specifics) → HasCanonicalExtra specifics → HasCanonicalExtra (stored deleted specifics)
 stored_canonical true specifics canonical = tt
@@ -75,5 +76,5 @@ told_canonical marks history entities held is fit =
     (subst HaveCanonicalExtras (sym is)
     (all_mapped HoldsCanonicalExtra (λ (entity : Entity). HasCanonicalExtraIfSome entity.specifics) told_entity (λ entry canonical. canonical)
     (take MAX_UPDATES (wanted_writes marks history history))
-    (all_of_first HoldsCanonicalExtra MAX_UPDATES (wanted_writes marks history history)
+    (all_take HoldsCanonicalExtra MAX_UPDATES (wanted_writes marks history history)
     (wanted_holds HoldsCanonicalExtra HoldsCanonicalExtra (length history) (λ version write within canonical. canonical) marks history history held (omega arith)))))

@@ -11,9 +11,9 @@ use Rattle.sync_model.specs.History.{answer_to, answers_to, history_with, commit
 use Rattle.loopback_server.specs.declared.candidate.Candidate.{Candidate}
 use Rattle.loopback_server.specs.declared.write.EntityKey.{EntityKey}
 use Rattle.loopback_server.specs.Candidates.{entry_read, HasItsPlace, HaveIds, HavePlaces}
-use Rattle.loopback_server.specs.Entries.{no_entry, is_invalid}
+use Rattle.replay_messages.specs.Entries.{no_entry, is_invalid}
 use Rattle.loopback_server.specs.Indexes.{HasPlace}
-use Rattle.loopback_server.specs.Messages.{told_answer, told_answers, told_refusal, answers_told}
+use Rattle.replay_messages.specs.Replies.{told_answer, told_answers, told_refusal, answers_told}
 
 -- what may not be stored is invalid, and leaves the history
 pub invalid_answer : (history : List (Entry (Option Specifics))) → told_refusal Invalid ≡ told_answer no_entry (answer_to is_invalid history no_entry)

@@ -85,7 +85,7 @@ some_there (Some n) version is above = ap (λ (m : ℕ). Some m) is
 wanted_hit : (index : List (EntityKey × ℕ)) (history : List (Entry (Option Specifics))) (asked : Asked) (marks : List Marker) (version : ℕ) (write : Entry (Option Specifics))
     → HasVersions index history → asked ≡ asked_of marks → is_wanted marks history version write ≡ true → list_any (hits asked version) index ≡ true
 wanted_hit index history asked marks version write has is wanted =
-    let key : EntityKey = key_with write.key.kind (record { bytes = write.key.hash }) in
+    let key : EntityKey = key_with write.key.kind write.key.hash in
     let parts : ((last_version history write.key == version) ≡ true) × (is_above (mark_of write.key.kind marks) version ≡ true) = and_parts _ _ wanted in
     let positive : 0 < version = above_zero (mark_of write.key.kind marks) version parts.1 in
     let there : indexed index key ≡ Some version = some_there (indexed index key) version (has key ∙ eqb-true _ _ parts.0) positive in

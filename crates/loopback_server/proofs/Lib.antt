@@ -5,8 +5,6 @@ mod PageLemmas
 mod WantedVersions
 mod IndexHits
 mod Based
-pub mod EachEntry
-pub mod NoExtra
 mod CanonicalExtras
 mod Places
 mod TakingBack

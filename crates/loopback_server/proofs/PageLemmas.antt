@@ -13,7 +13,7 @@ use Rattle.sync_model.specs.declared.message.Entry.{Entry}
 use Rattle.sync_model.specs.declared.message.Marker.{Marker}
 use Rattle.sync_model.specs.Servers.{mark_of, last_given, MAX_UPDATES}
 use Rattle.loopback_server.specs.declared.page.Page.{Page}
-use Rattle.loopback_server.specs.Messages.{told_entity}
+use Rattle.replay_messages.specs.Replies.{told_entity}
 use Rattle.loopback_server.specs.Pages.{asked_of, mark_in, IsPage}
 
 -- the last of some entries with one more

@@ -8,7 +8,7 @@ use Rattle.sync_model.specs.declared.message.Entry.{Entry}
 use Rattle.sync_model.specs.History.{MAX_KEYS, LAST_VERSION, last_version, key_count, is_over_quota, answer_to}
 use Rattle.loopback_server.specs.declared.write.EntityKey.{EntityKey}
 use Rattle.loopback_server.specs.declared.write.Write.{Write}
-use Rattle.loopback_server.specs.Entries.{is_invalid}
+use Rattle.replay_messages.specs.Entries.{is_invalid}
 use Rattle.loopback_server.specs.Indexes.{key_of, is_key, indexed, HasVersions}
 use Rattle.loopback_server.specs.Stores.{entry_of, history_in}
 

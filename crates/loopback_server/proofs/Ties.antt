@@ -18,15 +18,15 @@ abbrev pub key_with : Kind → TagHash → EntityKey
 key_with kind hash = record { kind = kind; hash = hash }
 
 by_kinds : (k l : Kind) (h g : TagHash) → is_at (cmp-value.it (key_with k h)) (key_with l g) ≡ is_key (key_with k h) (key_with l g)
-by_kinds Nigori Nigori h g = is_eq-slice_cmp h.bytes g.bytes
+by_kinds Nigori Nigori h g = is_eq-slice_cmp h g
 by_kinds Nigori Preference h g = refl
 by_kinds Nigori Password h g = refl
 by_kinds Preference Nigori h g = refl
-by_kinds Preference Preference h g = is_eq-slice_cmp h.bytes g.bytes
+by_kinds Preference Preference h g = is_eq-slice_cmp h g
 by_kinds Preference Password h g = refl
 by_kinds Password Nigori h g = refl
 by_kinds Password Preference h g = refl
-by_kinds Password Password h g = is_eq-slice_cmp h.bytes g.bytes
+by_kinds Password Password h g = is_eq-slice_cmp h g
 
 pub ties : (a b : EntityKey) → is_at (cmp-value.it a) b ≡ is_key a b
 ties a b = by_kinds a.kind b.kind a.hash b.hash
@@ -43,8 +43,8 @@ updated old new key value updates other =
     sym (same_lookup new other) ∙ updates other ∙ (λ i. cond (ties key other i) value (same_lookup old other i))
 
 -- keys that are one are equal
-one_hash : (kind : Kind) (h g : TagHash) → bytes_eq h.bytes g.bytes ≡ true → key_with kind h ≡ key_with kind g
-one_hash kind h g same = λ i. record { kind = kind; hash = record { bytes = (bytes_eq-Decides h.bytes g.bytes).0 same i } }
+one_hash : (kind : Kind) (h g : TagHash) → bytes_eq h g ≡ true → key_with kind h ≡ key_with kind g
+one_hash kind h g same = λ i. record { kind = kind; hash = (bytes_eq-Decides h g).0 same i }
 
 one_by : (k l : Kind) (h g : TagHash) → is_key (key_with k h) (key_with l g) ≡ true → key_with k h ≡ key_with l g
 one_by Nigori Nigori h g same = one_hash Nigori h g same
@@ -62,9 +62,9 @@ one_key a b same = one_by a.kind b.kind a.hash b.hash same
 
 -- a key is itself
 itself_by : (kind : Kind) (h : TagHash) → is_key (key_with kind h) (key_with kind h) ≡ true
-itself_by Nigori h = (bytes_eq-Decides h.bytes h.bytes).1 refl
-itself_by Preference h = (bytes_eq-Decides h.bytes h.bytes).1 refl
-itself_by Password h = (bytes_eq-Decides h.bytes h.bytes).1 refl
+itself_by Nigori h = (bytes_eq-Decides h h).1 refl
+itself_by Preference h = (bytes_eq-Decides h h).1 refl
+itself_by Password h = (bytes_eq-Decides h h).1 refl
 
 key_is_itself : (key : EntityKey) → is_key key key ≡ true
 key_is_itself key = itself_by key.kind key.hash

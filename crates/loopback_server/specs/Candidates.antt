@@ -5,9 +5,9 @@ use Rattle.sync_specifics.specs.declared.specifics.Specifics.{Specifics}
 use Rattle.sync_model.specs.declared.message.Entry.{Entry}
 use Rattle.loopback_server.specs.declared.candidate.Candidate.{Candidate}
 use Rattle.loopback_server.specs.declared.write.EntityKey.{EntityKey}
-use Rattle.loopback_server.specs.Entries.{no_entry}
+use Rattle.replay_messages.specs.Entries.{no_entry}
 use Rattle.loopback_server.specs.Indexes.{key_of, HasPlace}
-use Rattle.loopback_server.specs.Messages.{id_of}
+use Rattle.replay_messages.specs.Replies.{id_of}
 use Rattle.loopback_server.specs.Stores.{entry_of}
 
 -- what was read of an entity as an entry

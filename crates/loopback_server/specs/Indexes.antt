@@ -10,7 +10,7 @@ use Rattle.loopback_server.specs.declared.write.EntityKey.{EntityKey}
 
 -- an entity's key in the model's words
 abbrev pub key_of : EntityKey → Key
-key_of key = record { kind = key.kind; hash = key.hash.bytes }
+key_of key = record { kind = key.kind; hash = key.hash }
 
 -- two keys are one
 abbrev pub is_key : EntityKey → EntityKey → Bool

@@ -1,5 +1,3 @@
-pub mod Entries
-pub mod Messages
 pub mod Extras
 pub mod Indexes
 pub mod Stores

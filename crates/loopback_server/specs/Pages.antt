@@ -9,7 +9,7 @@ use Rattle.sync_model.specs.History.{write_at}
 use Rattle.sync_model.specs.Servers.{mark_of, new_marker, as_given, wanted_writes, last_given, MAX_UPDATES}
 use Rattle.loopback_server.specs.declared.asked.Asked.{Asked}
 use Rattle.loopback_server.specs.declared.page.Page.{Page}
-use Rattle.loopback_server.specs.Messages.{told_entity}
+use Rattle.replay_messages.specs.Replies.{told_entity}
 
 -- the marks of the types that are asked for
 abbrev pub asked_of : List Marker → Asked

@@ -1,7 +1,7 @@
 //! The marks of the types that a get-updates asks for.
 ghost use Rattle.std.specs.Prelude.{◌≡◌, map};
 ghost use Rattle.sync_model.specs.Servers.{mark_of, is_above};
-ghost use Rattle.loopback_server.specs.Messages.{marker_in};
+ghost use Rattle.replay_messages.specs.Replies.{marker_in};
 ghost use Rattle.loopback_server.specs.Pages.{asked_of, from_the_start, mark_in};
 
 use client_tags::Kind;

@@ -1,15 +1,13 @@
 //! What is read of the entities of a commit before any is stored.
-ghost use Rattle.std.specs.Prelude.{◌≡◌, ◌∷◌, ◌++◌, map, IfOk, IfSome};
-ghost use Rattle.std.specs.Fmt.{decimal};
-ghost use Rattle.client_tags.specs.Kinds.{kind_number};
+ghost use Rattle.std.specs.Prelude.{◌≡◌, map, IfOk, IfSome};
 ghost use Rattle.loopback_server.specs.Candidates.{entry_read, HasId, HaveIds};
-ghost use Rattle.loopback_server.specs.Entries.{entry_in, kind_of, is_empty, may_not_be_stored, stored};
+ghost use Rattle.replay_messages.specs.Entries.{entry_in, kind_of, is_empty, may_not_be_stored, stored};
 ghost use Rattle.loopback_server.specs.Indexes.{key_of};
-ghost use Rattle.loopback_server.specs.Messages.{id_of};
+ghost use Rattle.replay_messages.specs.Replies.{id_of};
 
 use crate::write::{EntityKey, Write};
 use client_tags::Kind;
-use itoa::Buffer;
+use replay_messages::id_of;
 use std::alloc::Global;
 use sync_messages::Entity;
 use sync_specifics::{NigoriContent, Specifics};
@@ -20,19 +18,6 @@ use wire_fields::{NoMemory, Octets};
 pub(crate) struct Candidate {
     pub(crate) write: Write,
     pub(crate) id: Octets,
-}
-
-/// The name of a key's entity.
-#[tactic(auto, unfolding(crate::specs::Messages::id_of))]
-pub(crate) fn id_of(alloc: Global, key: &EntityKey) -> Result<Octets, NoMemory>
-    ensures { IfOk result (λ id. id ≡ id_of (key_of key.now)) }
-{
-    let mut buffer = Buffer::new();
-    let mut id = Vec::new(alloc);
-    id.extend_from_slice(buffer.format(key.kind.number()).as_bytes())?;
-    id.push(b'|')?;
-    id.extend_from_slice(&key.hash.text())?;
-    Ok(Octets::from_vec(id))
 }
 
 fn kind_of(specifics: &Specifics) -> Kind
@@ -91,7 +76,7 @@ fn stored(deleted: bool, specifics: &Specifics) -> Result<Specifics, NoMemory>
 }
 
 // The write that may come of an entity, if it may be stored.
-#[tactic(auto, unfolding(crate::specs::Entries::entry_in))]
+#[tactic(auto, unfolding(replay_messages::specs::Entries::entry_in))]
 fn candidate_of(alloc: Global, entity: &Entity) -> Result<Option<Candidate>, NoMemory>
     ensures entry { IfOk result (λ read. entry_read read ≡ entry_in entity.now) }
     ensures id { IfOk result (λ read. HasId read) }
@@ -110,7 +95,7 @@ fn candidate_of(alloc: Global, entity: &Entity) -> Result<Option<Candidate>, NoM
         hash: *hash,
     };
     Ok(Some(Candidate {
-        id: id_of(alloc, &key)?,
+        id: id_of(alloc, &key.named())?,
         write: Write {
             key,
             base: entity.version.cast_unsigned(),

@@ -1,20 +1,20 @@
 //! The answer to a get-updates: the first of the wanted writes, and how many others there are.
 ghost use Rattle.std.specs.Prelude.{◌≡◌, ◌==◌, ◌+◌, ◌<◌, ◌≤◌, ◌^◌, ◌∷◌, ◌++◌, [], List as Sequence, Option as Maybe, map, max, if◌then◌else◌, length, IfOk, OnOk};
 ghost use Rattle.std.specs.List.{AllByRecursion};
-ghost use Rattle.client_tags.specs.Hashes.{IsHash};
 ghost use Rattle.sync_specifics.specs.declared.specifics.Specifics.{Specifics as AnySpecifics};
 ghost use Rattle.sync_messages.specs.Laws.{FitsTypes, IsMarker};
 ghost use Rattle.sync_model.specs.declared.message.Entry.{Entry as AnyEntry};
 ghost use Rattle.sync_model.specs.Servers.{as_given, new_marker};
-ghost use Rattle.loopback_server.specs.Messages.{told_entity, told_marker};
+ghost use Rattle.replay_messages.specs.Replies.{told_entity, told_marker};
 ghost use Rattle.loopback_server.specs.Pages.{next_mark, markers_after, IsPage};
 ghost use Rattle.loopback_server.specs.Stores.{entry_of};
 
 use crate::asked::Asked;
-use crate::candidate::{copied, id_of, is_empty};
+use crate::candidate::{copied, is_empty};
 use crate::write::Write;
-use client_tags::{Kind, TagHash};
+use client_tags::Kind;
 use progress_marker::Mark;
+use replay_messages::id_of;
 use std::alloc::Global;
 use sync_messages::{Entity, Marker};
 use wire_fields::{List, NoMemory};
@@ -30,27 +30,20 @@ pub(crate) struct Page {
     pub(crate) last: u64,
 }
 
-// A copy of the bytes of a hash, as a hash.
-fn hash_of(bytes: &[u8; 20]) -> TagHash
-    ensures same { result.bytes ≡ bytes.now }
-    ensures is_hash { IsHash bytes.now }
-{
-    let mut copy = [0; 20];
-    copy.copy_from_slice(bytes);
-    TagHash { bytes: copy }
-}
-
 // A write of this version as an entity.
 fn told_entity(alloc: Global, write: &Write, version: u64) -> Result<Entity, NoMemory>
     ensures entity { IfOk result (λ entity. entity ≡ told_entity (as_given version (entry_of write.now))) }
     ensures typed { IfOk result FitsTypes }
 {
+    let hash = write.key.hash;
+    // It is known to have twenty bytes.
+    let _bytes = hash.as_bytes();
     Ok(Entity {
-        id: id_of(alloc, &write.key)?,
+        id: id_of(alloc, &write.key.named())?,
         version: version.cast_signed(),
         deleted: is_empty(&write.specifics),
         specifics: Some(copied(&write.specifics)?),
-        hash: Some(hash_of(&write.key.hash.bytes)),
+        hash: Some(hash),
     })
 }
 

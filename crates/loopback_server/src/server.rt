@@ -4,9 +4,9 @@ ghost use Rattle.std.specs.Str.{bytes_eq};
 ghost use Rattle.sync_messages.specs.Laws.{HasCanonicalRequest, IsSayable, IsSayableReply};
 ghost use Rattle.sync_model.specs.History.{IsBased};
 ghost use Rattle.sync_model.specs.Servers.{is_foreign, verdict_on, history_after};
-ghost use Rattle.loopback_server.specs.Entries.{is_invalid};
+ghost use Rattle.replay_messages.specs.Entries.{is_invalid};
 ghost use Rattle.loopback_server.specs.Extras.{HoldCanonicalExtras};
-ghost use Rattle.loopback_server.specs.Messages.{call_in, entries_of, told_entity, told_verdict, reply_for, history_for};
+ghost use Rattle.replay_messages.specs.Replies.{call_in, entries_of, told_entity, told_verdict, reply_for, history_for};
 ghost use Rattle.loopback_server.specs.Pages.{last_writes};
 ghost use Rattle.loopback_server.specs.Stores.{history_of, IsIndexed};
 
@@ -91,7 +91,7 @@ impl Server {
     /// grows with its bytes and, for each entity, with the logarithm of the number of keys; a get-updates takes one pass
     /// over the keys, and time that grows with the bytes of what is told and, for each key that is wanted, with the
     /// logarithm of their number.
-    #[tactic(auto, unfolding(crate::specs::Messages::reply_for, crate::specs::Messages::history_for, sync_model::specs::Servers::reply_to, sync_model::specs::Servers::history_served))]
+    #[tactic(auto, unfolding(replay_messages::specs::Replies::reply_for, replay_messages::specs::Replies::history_for, sync_model::specs::Servers::reply_to, sync_model::specs::Servers::history_served))]
     pub fn handle(&mut self, request: &ToServer) -> Result<FromServer, NoMemory>
         requires { HasCanonicalRequest request.now.request }
         ensures reply { IfOk result (λ reply. reply ≡ reply_for self.old.birthday self.old.history request.now) }

@@ -5,9 +5,9 @@ ghost use Rattle.sync_messages.specs.Laws.{IsAnswer};
 ghost use Rattle.sync_model.specs.History.{last_version, answer_to, history_with, committed, answers_to};
 ghost use Rattle.loopback_server.specs.declared.write.EntityKey.{EntityKey as AnyKey};
 ghost use Rattle.loopback_server.specs.Candidates.{entry_read, HasId, HasItsPlace, HaveIds, HavePlaces};
-ghost use Rattle.loopback_server.specs.Entries.{entry_in, is_invalid};
+ghost use Rattle.replay_messages.specs.Entries.{entry_in, is_invalid};
 ghost use Rattle.loopback_server.specs.Indexes.{key_of, version_at as version_in, HasPlace};
-ghost use Rattle.loopback_server.specs.Messages.{told_with, told_answer, told_refusal, answers_told};
+ghost use Rattle.replay_messages.specs.Replies.{told_with, told_answer, told_refusal, answers_told};
 ghost use Rattle.loopback_server.specs.Stores.{entry_of, history_of, IsIndexed};
 
 use crate::candidate::{Candidate, candidates_of};

@@ -36,13 +36,11 @@ fn entity(alloc: Global, specifics: Specifics, number: u8, version: i64, deleted
         version,
         deleted,
         specifics: Some(specifics),
-        hash: Some(TagHash {
-            bytes: [number; 20],
-        }),
+        hash: Some(TagHash::from_bytes([number; 20])),
     }
 }
 
-#[tactic(auto, using(crate::proofs::NoExtra::no_extra))]
+#[tactic(auto, using(replay_messages::proofs::NoExtra::no_extra))]
 fn preference(alloc: Global, number: u8, version: i64) -> Result<Entity, NoMemory>
     ensures { IfOk result (λ entity. HasCanonicalExtraIfSome entity.specifics) }
 {

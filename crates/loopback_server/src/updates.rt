@@ -10,7 +10,7 @@ ghost use Rattle.sync_model.specs.declared.message.Marker.{Marker as AnyMarker};
 ghost use Rattle.sync_model.specs.History.{write_at};
 ghost use Rattle.sync_model.specs.Servers.{wanted_writes, updates_of};
 ghost use Rattle.loopback_server.specs.Extras.{HoldCanonicalExtras};
-ghost use Rattle.loopback_server.specs.Messages.{marker_in, told_entity, told_updates};
+ghost use Rattle.replay_messages.specs.Replies.{marker_in, told_entity, told_updates};
 ghost use Rattle.loopback_server.specs.Pages.{asked_of, given_at, last_writes, wanted_versions, IsPage};
 ghost use Rattle.loopback_server.specs.Stores.{entry_of, history_of, IsIndexed};
 

@@ -3,7 +3,6 @@ use Rattle.std.specs.Prelude.{ℕ, Bool, true, false, List, [], ◌∷◌, ◌++
 use Rattle.std.specs.Fmt.{decimal, signed_decimal}
 use Rattle.client_tags.specs.declared.Kind.{Kind}
 use Rattle.client_tags.specs.declared.Kind.TheVariants as kinds
-use Rattle.client_tags.specs.declared.hash.TagHash.{TagHash}
 use Rattle.client_tags.specs.Hashes.{hash_text}
 use Rattle.sync_values.specs.PassKinds.{pass_kind_number}
 use Rattle.sync_specifics.specs.declared.sealed.Sealed.{Sealed}
@@ -39,9 +38,9 @@ specifics_text (Some (Password sealed)) = sealed_of_kind kinds.Password sealed
 specifics_text (Some (Nigori content)) = nigori_text content
 
 -- the hash of a client tag, or that there is none
-unfoldable pub hash_word : Option TagHash → List ℕ
+unfoldable pub hash_word : Option (List ℕ) → List ℕ
 hash_word None = codes "none"
-hash_word (Some hash) = hash_text hash.bytes
+hash_word (Some hash) = hash_text hash
 
 -- whether an entity was deleted
 unfoldable pub deleted_text : Bool → List ℕ

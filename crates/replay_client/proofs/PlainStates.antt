@@ -32,7 +32,7 @@ use Rattle.sync_model.specs.Sides.{States, Side, state_at, with_state, after_upd
 use Rattle.sync_model.specs.Values.{same_kind, extra_in}
 use Rattle.sync_model.proofs.FateKeys.{each_at, each_put}
 use Rattle.replay_messages.specs.Forms.{IsPlainValue}
-use Rattle.loopback_server.proofs.NoExtra.{no_extra}
+use Rattle.replay_messages.proofs.NoExtra.{no_extra}
 use Rattle.replay_client.specs.Clients.{HavePlainValues}
 use Rattle.replay_client.specs.Mail.{IsPlainUpdate, IsPlainAck, IsPlainTask}
 

@@ -35,10 +35,12 @@ use Rattle.sync_model.specs.Clients.{Client}
 use Rattle.sync_model.specs.Receiving.{ack_of, ack_for, acks_of, letter_of, update_of, updates_in, batch_letter, letter_in, is_fit, is_other_store, told, answered_with, answer_effect}
 use Rattle.sync_model.specs.Servers.{mark_of}
 use Rattle.sync_model.specs.Values.{same_kind}
-use Rattle.loopback_server.specs.Entries.{is_empty}
-use Rattle.loopback_server.specs.Messages.{marker_in, told_marker, told_answer, told_answers, told_entity, told_verdict, entries_of}
+use Rattle.replay_messages.specs.Entries.{is_empty}
+use Rattle.replay_messages.specs.Replies.{marker_in, told_marker, told_answer, told_answers, told_entity, told_verdict, entries_of}
 use Rattle.type_processor.specs.Fits.{LAST_VERSION, may_have}
-use Rattle.replay_messages.specs.Forms.{IsPlain, IsPlainValue, IsPlainCall, form, plain_specifics, call_formed, verdict_formed}
+use Rattle.replay_messages.specs.Forms.{IsPlain, IsPlainValue, IsPlainCall, form, call_formed, verdict_formed}
+use Rattle.replay_messages.specs.Sealed.{plain_specifics}
+use Rattle.replay_messages.proofs.PlainEntries.{said_plainly}
 use Rattle.replay_messages.specs.Messages.{reply_told}
 use Rattle.replay_client.specs.declared.letters.Letters.{Letters}
 use Rattle.replay_client.specs.Happenings.{HappensAlone}
@@ -61,29 +63,29 @@ where_true test x y is = rw is refl
 where_false : {A : Type 0} (test : Bool) (x y : A) → test ≡ false → cond test x y ≡ y
 where_false test x y is = rw is refl
 
-ack_told : (entry : Entry Content) (answer : Answer) → IsPlain entry → IsVersioned answer → ack_read entry (told_answer (form entry) answer) ≡ ack_for Preference entry answer
-ack_told entry (Success version) plain most =
+ack_told : (seed : ℕ) (entry : Entry Content) (answer : Answer) → IsPlain entry → IsVersioned answer → ack_read entry (told_answer (form seed entry) answer) ≡ ack_for Preference entry answer
+ack_told seed entry (Success version) plain most =
     ap (ack_at entry) (same_version version most)
     ∙ where_true (nat_le version LAST_VERSION) (ack_of entry version ∷ []) [] (is_last version most)
     ∙ sym (where_true (same_kind entry.key.kind Preference) (ack_of entry version ∷ []) [] (ap (λ kind. same_kind kind Preference) plain.kind))
-ack_told entry Conflict plain most = refl
-ack_told entry Invalid plain most = refl
-ack_told entry OverQuota plain most = refl
+ack_told seed entry Conflict plain most = refl
+ack_told seed entry Invalid plain most = refl
+ack_told seed entry OverQuota plain most = refl
 
-acks_told : (entries : List (Entry Content)) (answers : List Answer) → AllByRecursion IsPlain entries → AllByRecursion IsVersioned answers
-    → acks_read entries (told_answers (map form entries) answers) ≡ acks_of Preference entries answers
+acks_told : (seed : ℕ) (entries : List (Entry Content)) (answers : List Answer) → AllByRecursion IsPlain entries → AllByRecursion IsVersioned answers
+    → acks_read entries (told_answers (map (form seed) entries) answers) ≡ acks_of Preference entries answers
 unfolding acks_read told_answers acks_of
-acks_told [] answers plain most = refl
-acks_told (entry ∷ entries) [] plain most = refl
-acks_told (entry ∷ entries) (answer ∷ answers) plain most =
-    (λ i. ack_told entry answer plain.0 most.0 i ++ acks_told entries answers plain.1 most.1 i)
+acks_told seed [] answers plain most = refl
+acks_told seed (entry ∷ entries) [] plain most = refl
+acks_told seed (entry ∷ entries) (answer ∷ answers) plain most =
+    (λ i. ack_told seed entry answer plain.0 most.0 i ++ acks_told seed entries answers plain.1 most.1 i)
 
-length-told : (entries : List (Entry Content)) (answers : List Answer) → length answers ≤ length entries → length (told_answers (map form entries) answers) ≡ length answers
+length-told : (seed : ℕ) (entries : List (Entry Content)) (answers : List Answer) → length answers ≤ length entries → length (told_answers (map (form seed) entries) answers) ≡ length answers
 unfolding told_answers
-length-told [] [] few = refl
-length-told [] (answer ∷ answers) few = absurd (omega (arith, few))
-length-told (entry ∷ entries) [] few = refl
-length-told (entry ∷ entries) (answer ∷ answers) few = ap suc (length-told entries answers (omega (arith, few)))
+length-told seed [] [] few = refl
+length-told seed [] (answer ∷ answers) few = absurd (omega (arith, few))
+length-told seed (entry ∷ entries) [] few = refl
+length-told seed (entry ∷ entries) (answer ∷ answers) few = ap suc (length-told seed entries answers (omega (arith, few)))
 
 -- the answers to a commit of preferences acknowledge no keys of another type
 no_ack : (kind : Kind) (entry : Entry Content) (answer : Answer) → same_kind Preference kind ≡ false → IsPlain entry → ack_for kind entry answer ≡ []
@@ -115,20 +117,21 @@ value_told (values.Preference preference) plain = refl
 value_told (values.Password password) plain = absurd plain
 value_told (values.Nigori nigori) plain = absurd plain
 
-update_told : (entry : Entry Content) → IsPlainWrite entry
-    → update_read (told_entity (form entry)) ≡ (if same_kind entry.key.kind Preference then update_of entry ∷ [] else [])
-update_told entry plain =
-    ap (λ kind. update_at (record { bytes = entry.key.hash }) (cast_unsigned w64 (cast_signed w64 entry.version)) (value_read (is_empty (plain_specifics kind entry.content.value)) (plain_specifics kind entry.content.value))) plain.plain.kind
-    ∙ ap (update_at (record { bytes = entry.key.hash }) (cast_unsigned w64 (cast_signed w64 entry.version))) (value_told entry.content.value plain.plain.value)
-    ∙ ap (λ version. update_at (record { bytes = entry.key.hash }) version (Some entry.content.value)) (same_version entry.version plain.version)
+update_told : (seed : ℕ) (entry : Entry Content) → IsPlainWrite entry
+    → update_read (told_entity (form seed entry)) ≡ (if same_kind entry.key.kind Preference then update_of entry ∷ [] else [])
+update_told seed entry plain =
+    ap (λ said. update_read (told_entity (record (form seed entry) { content = Some said }))) (said_plainly seed entry plain.plain)
+    ∙ ap (λ kind. update_at entry.key.hash (cast_unsigned w64 (cast_signed w64 entry.version)) (value_read (is_empty (plain_specifics kind entry.content.value)) (plain_specifics kind entry.content.value))) plain.plain.kind
+    ∙ ap (update_at entry.key.hash (cast_unsigned w64 (cast_signed w64 entry.version))) (value_told entry.content.value plain.plain.value)
+    ∙ ap (λ version. update_at entry.key.hash version (Some entry.content.value)) (same_version entry.version plain.version)
     ∙ where_true (nat_le entry.version LAST_VERSION) (record { hash = entry.key.hash; version = entry.version; value = entry.content.value; lock = None } ∷ []) [] (is_last entry.version plain.version)
     ∙ ap (λ lock. record { hash = entry.key.hash; version = entry.version; value = entry.content.value; lock = lock } ∷ []) (sym plain.plain.unlocked)
     ∙ sym (where_true (same_kind entry.key.kind Preference) (update_of entry ∷ []) [] (ap (λ kind. same_kind kind Preference) plain.plain.kind))
 
-updates_told : (entries : List (Entry Content)) → AllByRecursion IsPlainWrite entries → updates_read (map told_entity (map form entries)) ≡ updates_in Preference entries
+updates_told : (seed : ℕ) (entries : List (Entry Content)) → AllByRecursion IsPlainWrite entries → updates_read (map told_entity (map (form seed) entries)) ≡ updates_in Preference entries
 unfolding updates_read updates_in
-updates_told [] plain = refl
-updates_told (entry ∷ entries) plain = (λ i. update_told entry plain.0 i ++ updates_told entries plain.1 i)
+updates_told seed [] plain = refl
+updates_told seed (entry ∷ entries) plain = (λ i. update_told seed entry plain.0 i ++ updates_told seed entries plain.1 i)
 
 marks_told : (marks : List Marker) → map marker_in (map told_marker marks) ≡ marks
 marks_told [] = refl
@@ -152,37 +155,37 @@ abbrev letters_if_fit : Call Content → Verdict Content → Option Letters
 letters_if_fit call verdict = if is_fit call verdict then Some (letters_of call verdict) else None
 
 -- what a message tells of a verdict
-abbrev told_of : Call Content → Verdict Content → Said
-told_of call verdict = told_verdict (entries_of (call_formed call)) (verdict_formed verdict)
+abbrev told_of : (seed : ℕ) → Call Content → Verdict Content → Said
+told_of seed call verdict = told_verdict (entries_of (call_formed seed call)) (verdict_formed seed verdict)
 
-letters_told : (call : Call Content) (verdict : Verdict Content) → IsPlainCall call → IsReplyTo call verdict → letters_read call (told_of call verdict) ≡ letters_if_fit call verdict
+letters_told : (seed : ℕ) (call : Call Content) (verdict : Verdict Content) → IsPlainCall call → IsReplyTo call verdict → letters_read call (told_of seed call verdict) ≡ letters_if_fit call verdict
 unfolding letters_read
-letters_told (calls.Commit entries) (verdicts.Committed answers) plain reply =
-    (λ i. if length entries == length-told entries answers reply.0 i then Some record {
+letters_told seed (calls.Commit entries) (verdicts.Committed answers) plain reply =
+    (λ i. if length entries == length-told seed entries answers reply.0 i then Some record {
       nigori = letter_of (sym (no_acks Nigori entries answers refl plain) i);
-      preference = letter_of (acks_told entries answers plain reply.1 i);
+      preference = letter_of (acks_told seed entries answers plain reply.1 i);
       password = letter_of (sym (no_acks Password entries answers refl plain) i);
     } else None)
-letters_told (calls.Commit entries) (verdicts.Updated updates) plain reply = refl
-letters_told (calls.Commit entries) (verdicts.Refused code) plain reply = refl
-letters_told (calls.Updates marks) (verdicts.Committed answers) plain reply = refl
-letters_told (calls.Updates marks) (verdicts.Updated updates) plain reply =
+letters_told seed (calls.Commit entries) (verdicts.Updated updates) plain reply = refl
+letters_told seed (calls.Commit entries) (verdicts.Refused code) plain reply = refl
+letters_told seed (calls.Updates marks) (verdicts.Committed answers) plain reply = refl
+letters_told seed (calls.Updates marks) (verdicts.Updated updates) plain reply =
     (λ i. Some record {
       nigori = batch_told Nigori (mark_of Nigori marks) [] (map marker_in (map told_marker updates.marks)) updates (sym (no_updates Nigori updates.entries refl reply)) (marks_told updates.marks) i;
-      preference = batch_told Preference (mark_of Preference marks) (updates_read (map told_entity (map form updates.entries))) (map marker_in (map told_marker updates.marks)) updates (updates_told updates.entries reply) (marks_told updates.marks) i;
+      preference = batch_told Preference (mark_of Preference marks) (updates_read (map told_entity (map (form seed) updates.entries))) (map marker_in (map told_marker updates.marks)) updates (updates_told seed updates.entries reply) (marks_told updates.marks) i;
       password = batch_told Password (mark_of Password marks) [] (map marker_in (map told_marker updates.marks)) updates (sym (no_updates Password updates.entries refl reply)) (marks_told updates.marks) i;
     })
-letters_told (calls.Updates marks) (verdicts.Refused code) plain reply = refl
+letters_told seed (calls.Updates marks) (verdicts.Refused code) plain reply = refl
 
-birthday_told : (request : Request Content) (reply : Reply Content) (message : FromServer) → message ≡ reply_told request reply → message.birthday ≡ reply.birthday
+birthday_told : (seed : ℕ) (request : Request Content) (reply : Reply Content) (message : FromServer) → message ≡ reply_told seed request reply → message.birthday ≡ reply.birthday
 unfolding reply_told
-birthday_told request reply message is = ap (λ (said : FromServer). said.birthday) is
+birthday_told seed request reply message is = ap (λ (said : FromServer). said.birthday) is
 
-read_as_told : (request : Request Content) (reply : Reply Content) (message : FromServer) → message ≡ reply_told request reply → IsPlainCall request.call → IsReplyTo request.call reply.verdict
+read_as_told : (seed : ℕ) (request : Request Content) (reply : Reply Content) (message : FromServer) → message ≡ reply_told seed request reply → IsPlainCall request.call → IsReplyTo request.call reply.verdict
     → letters_read request.call message.reply ≡ letters_if_fit request.call reply.verdict
 unfolding reply_told
-read_as_told request reply message is plain fits =
-    ap (λ (said : FromServer). letters_read request.call said.reply) is ∙ letters_told request.call reply.verdict plain fits
+read_as_told seed request reply message is plain fits =
+    ap (λ (said : FromServer). letters_read request.call said.reply) is ∙ letters_told seed request.call reply.verdict plain fits
 
 unfit_if : (fit : Bool) (letters : Letters) → cond fit (Some letters) None ≡ None → fit ≡ false
 unfit_if true letters is = absurd (true≢false (ap is_some is))
@@ -209,31 +212,31 @@ ends client request reply is =
     (sym (where_true (is_other_store client.birthday reply.birthday || not (is_fit request.call reply.verdict)) (record client { outstanding = None }) (told request.call reply client) is))
 
 -- a reply of another store
-pub other_store_ends : (client : Client) (request : Request Content) (reply : Reply Content) (message : FromServer) → message ≡ reply_told request reply
+pub other_store_ends : (seed : ℕ) (client : Client) (request : Request Content) (reply : Reply Content) (message : FromServer) → message ≡ reply_told seed request reply
     → is_other_store client.birthday message.birthday ≡ true → HappensAlone (answer_effect request reply client) Done client (record client { outstanding = None })
-other_store_ends client request reply message is other =
+other_store_ends seed client request reply message is other =
     ends client request reply
-    (ap (λ test. test || not (is_fit request.call reply.verdict)) (ap (is_other_store client.birthday) (sym (birthday_told request reply message is)) ∙ other))
+    (ap (λ test. test || not (is_fit request.call reply.verdict)) (ap (is_other_store client.birthday) (sym (birthday_told seed request reply message is)) ∙ other))
 
 -- a reply that does not answer the request
-pub unfit_ends : (client : Client) (request : Request Content) (reply : Reply Content) (message : FromServer) → message ≡ reply_told request reply
+pub unfit_ends : (seed : ℕ) (client : Client) (request : Request Content) (reply : Reply Content) (message : FromServer) → message ≡ reply_told seed request reply
     → IsPlainCall request.call → IsReplyTo request.call reply.verdict → letters_read request.call message.reply ≡ None
     → HappensAlone (answer_effect request reply client) Done client (record client { outstanding = None })
-unfit_ends client request reply message is plain fits none =
+unfit_ends seed client request reply message is plain fits none =
     ends client request reply
     (or_true (is_other_store client.birthday reply.birthday) (not (is_fit request.call reply.verdict))
-    (ap not (unfit_if (is_fit request.call reply.verdict) (letters_of request.call reply.verdict) (sym (read_as_told request reply message is plain fits) ∙ none))))
+    (ap not (unfit_if (is_fit request.call reply.verdict) (letters_of request.call reply.verdict) (sym (read_as_told seed request reply message is plain fits) ∙ none))))
 
 -- a reply that answers the request
-pub answer_taken : (client : Client) (request : Request Content) (reply : Reply Content) (message : FromServer) (letters : Letters) (birthday : Option (List ℕ)) (new : Client) → message ≡ reply_told request reply
+pub answer_taken : (seed : ℕ) (client : Client) (request : Request Content) (reply : Reply Content) (message : FromServer) (letters : Letters) (birthday : Option (List ℕ)) (new : Client) → message ≡ reply_told seed request reply
     → IsPlainCall request.call → IsReplyTo request.call reply.verdict → is_other_store client.birthday message.birthday ≡ false
     → letters_read request.call message.reply ≡ Some letters → birthday ≡ option_or client.birthday message.birthday → new ≡ with_letters client letters birthday
     → HappensAlone (answer_effect request reply client) Done client new
 unfolding answer_effect
-answer_taken client request reply message letters birthday new is plain fits known read is_birthday is_new =
-    let same : message.birthday ≡ reply.birthday = birthday_told request reply message is in
+answer_taken seed client request reply message letters birthday new is plain fits known read is_birthday is_new =
+    let same : message.birthday ≡ reply.birthday = birthday_told seed request reply message is in
     let fit : (is_fit request.call reply.verdict ≡ true) × (letters ≡ letters_of request.call reply.verdict)
-    = fit_if (is_fit request.call reply.verdict) (letters_of request.call reply.verdict) letters (sym (read_as_told request reply message is plain fits) ∙ read) in
+    = fit_if (is_fit request.call reply.verdict) (letters_of request.call reply.verdict) letters (sym (read_as_told seed request reply message is plain fits) ∙ read) in
     alone (answer_effect request reply client) (answered_with request reply client) Done Done client new refl refl
     (is_new
     ∙ (λ i. with_letters client (fit.1 i) ((is_birthday ∙ ap (option_or client.birthday) same) i))
@@ -249,7 +252,7 @@ may_have_it (values.Nigori nigori) plain = absurd plain
 ack_if : (entry : Entry Content) (version : ℕ) (test : Bool) → IsPlain entry → nat_le version LAST_VERSION ≡ test → AllByRecursion IsPlainAck (cond test (ack_of entry version ∷ []) [])
 ack_if entry version true plain is = (
   record {
-    fits = record { hash = plain.hash; version = leb-true version LAST_VERSION is; value = may_have_it entry.content.value plain.value };
+    fits = record { version = leb-true version LAST_VERSION is; value = may_have_it entry.content.value plain.value };
     value = plain.value;
   },
   tt,

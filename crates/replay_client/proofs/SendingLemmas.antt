@@ -18,7 +18,8 @@ use Rattle.sync_model.specs.Offers.{with_all_due, with_reseals, due_offers, rese
 use Rattle.sync_model.specs.Settings.{nigori_hash}
 use Rattle.sync_model.specs.Sides.{States, state_at, after_offers, side_offered}
 use Rattle.sync_model.specs.Values.{is_absent}
-use Rattle.sync_model.specs.Sending.{MAX_ENTRIES, entry_of, sealed, drawn_for, drawn_after, is_held_back, lacks_own_lock, asked_offers, offers_if_had, gathered, holding, noting, gathering, is_gather_void, gather_effect, is_busy, seen_marks, ask_of, ask_effect, commit_of, offer_effect}
+use Rattle.sync_model.specs.Sending.{MAX_ENTRIES, Draws, drawing, entry_of, sealed, drawn_for, drawn_after, is_held_back, lacks_own_lock, asked_offers, offers_if_had, gathered, holding, noting, gathering, is_gather_void, gather_effect, is_busy, seen_marks, ask_of, ask_effect, commit_of, offer_effect}
+use Rattle.replay_client.specs.Draws.{no_draws}
 use Rattle.type_processor.specs.Fits.{IsOfferOf}
 use Rattle.replay_messages.specs.Forms.{IsPlain, IsPlainValue}
 use Rattle.replay_client.specs.declared.client.Client.TheInside.{Inside}
@@ -26,7 +27,7 @@ use Rattle.replay_client.specs.Clients.{client_of, HavePlainValues}
 use Rattle.replay_client.specs.Requests.{marks_with}
 use Rattle.replay_client.specs.Happenings.{HappensAlone}
 use Rattle.replay_client.proofs.Effects.{voided, made, has_effect, alone_void, alone}
-use Rattle.replay_client.proofs.HeldLemmas.{either_way, none_drawn, all_append}
+use Rattle.replay_client.proofs.HeldLemmas.{either_way, undrawn, none_drawn, all_append}
 use Rattle.replay_client.proofs.PlainStates.{HasPlainValue, due_offers_plain}
 
 -- a client without states of keys has no keys
@@ -54,19 +55,20 @@ plain_asked : (client : Client) → client.nigori.states ≡ [] → asked_offers
 plain_asked client none = rw none refl
 
 -- what is to be sent of preferences joins what is held, and is noted
-pub joined : (client : Client) (held : List (Entry Content)) (room : ℕ) (offers : List Offer) → client.nigori.states ≡ [] → client.drawn ≡ 0
-    → room ≡ MAX_ENTRIES - length client.held → offers ≡ offers_of None room client.preference.states → held ≡ client.held ++ sealed Preference None 0 offers
-    → (record client { held = held; preference = side_offered client.preference offers }) ≡ gathering hashed Preference client None
-joined client held room offers none undrawn is_room is_offers is_held =
+pub joined : (number : ℕ) (client : Client) (held : List (Entry Content)) (room : ℕ) (offers : List Offer) → client.nigori.states ≡ [] → client.drawn ≡ 0
+    → room ≡ MAX_ENTRIES - length client.held → offers ≡ offers_of None room client.preference.states → held ≡ client.held ++ sealed no_draws Preference None 0 offers
+    → (record client { held = held; preference = side_offered client.preference offers }) ≡ gathering hashed number Preference client None
+joined number client held room offers none none_yet is_room is_offers is_held =
     let all : List Offer = asked_offers hashed Preference client in
     let same : offers ≡ all = is_offers ∙ ap (λ n. offers_of None n client.preference.states) is_room ∙ sym (plain_asked client none) in
-    let after : (record client { held = held; preference = side_offered client.preference offers }) ≡ noting Preference all (holding Preference None all client) =
+    let after : (record client { held = held; preference = side_offered client.preference offers }) ≡ noting Preference all (holding (drawing hashed number client) Preference None all client) =
     (λ i. record client {
-      held = (is_held ∙ (λ j. client.held ++ sealed Preference None (sym undrawn j) (same j))) i;
+      held = (is_held ∙ (λ j. client.held ++ sealed no_draws Preference None (sym none_yet j) (same j))
+          ∙ ap (λ entries. client.held ++ entries) (sym (undrawn (drawing hashed number client) client.drawn all))) i;
       drawn = sym (none_drawn client.drawn all) i;
       preference = side_offered client.preference (same i);
     }) in
-    after ∙ ap (λ name. noting Preference all (holding Preference name all client)) (sym (plain_wanted client Preference none))
+    after ∙ ap (λ name. noting Preference all (holding (drawing hashed number client) Preference name all client)) (sym (plain_wanted client Preference none))
 
 either_nil : (test : Bool) → cond test [] [] ≡ (let none : List Offer = [] in none)
 either_nil true = refl
@@ -89,9 +91,9 @@ nothing_gathered : (client : Client) (kind : Kind) → (side_of client kind).sta
 nothing_gathered client kind none =
     ap (offers_if_had hashed kind client.bag) (nothing_asked client kind none) ∙ either_nil (lacks_own_lock hashed kind client.bag [])
 
-nothing_held : (client : Client) (kind : Kind) (name : Option (List ℕ)) → holding kind name [] client ≡ client
+nothing_held : (draws : Draws) (client : Client) (kind : Kind) (name : Option (List ℕ)) → holding draws kind name [] client ≡ client
 unfolding sealed drawn_for
-nothing_held client kind name = ap (λ held. record client { held = held }) (append-nil client.held)
+nothing_held draws client kind name = ap (λ held. record client { held = held }) (append-nil client.held)
 
 own_side : (client : Client) (kind : Kind) → with_side client kind (side_of client kind) ≡ client
 own_side client Nigori = refl
@@ -102,30 +104,30 @@ nothing_noted : (client : Client) (kind : Kind) → noting kind [] client ≡ cl
 unfolding after_offers
 nothing_noted client kind = own_side client kind
 
-idle : (client : Client) (kind : Kind) → (side_of client kind).states ≡ [] → client ≡ gathering hashed kind client None
-idle client kind none =
-    sym (ap (λ asked. noting kind asked (holding kind (wanted_name hashed client kind) (gathered hashed kind client) client)) (nothing_asked client kind none)
-    ∙ ap (λ offers. noting kind [] (holding kind (wanted_name hashed client kind) offers client)) (nothing_gathered client kind none)
-    ∙ ap (noting kind []) (nothing_held client kind (wanted_name hashed client kind))
+idle : (number : ℕ) (client : Client) (kind : Kind) → (side_of client kind).states ≡ [] → client ≡ gathering hashed number kind client None
+idle number client kind none =
+    sym (ap (λ asked. noting kind asked (holding (drawing hashed number client) kind (wanted_name hashed client kind) (gathered hashed kind client) client)) (nothing_asked client kind none)
+    ∙ ap (λ offers. noting kind [] (holding (drawing hashed number client) kind (wanted_name hashed client kind) offers client)) (nothing_gathered client kind none)
+    ∙ ap (noting kind []) (nothing_held (drawing hashed number client) client kind (wanted_name hashed client kind))
     ∙ nothing_noted client kind)
 
-pub gather_void : (client : Client) (kind : Kind) → is_gather_void kind client ≡ true → HappensAlone (gather_effect hashed kind client) Void client client
+pub gather_void : (number : ℕ) (client : Client) (kind : Kind) → is_gather_void kind client ≡ true → HappensAlone (gather_effect hashed number kind client) Void client client
 unfolding gather_effect
-gather_void client kind is =
-    alone_void (gather_effect hashed kind client) client client
-    (voided (is_gather_void kind client) (plain_effect (gathering hashed kind client (side_of client kind).pending) Done) is) refl
+gather_void number client kind is =
+    alone_void (gather_effect hashed number kind client) client client
+    (voided (is_gather_void kind client) (plain_effect (gathering hashed number kind client (side_of client kind).pending) Done) is) refl
 
-pub gather_done : (client : Client) (kind : Kind) (new : Client) → is_gather_void kind client ≡ false → new ≡ gathering hashed kind client (side_of client kind).pending
-    → HappensAlone (gather_effect hashed kind client) Done client new
+pub gather_done : (number : ℕ) (client : Client) (kind : Kind) (new : Client) → is_gather_void kind client ≡ false → new ≡ gathering hashed number kind client (side_of client kind).pending
+    → HappensAlone (gather_effect hashed number kind client) Done client new
 unfolding gather_effect
-gather_done client kind new is is_new =
-    alone (gather_effect hashed kind client) (gathering hashed kind client (side_of client kind).pending) Done Done client new
-    (made (is_gather_void kind client) (plain_effect (gathering hashed kind client (side_of client kind).pending) Done) is) refl is_new
+gather_done number client kind new is is_new =
+    alone (gather_effect hashed number kind client) (gathering hashed number kind client (side_of client kind).pending) Done Done client new
+    (made (is_gather_void kind client) (plain_effect (gathering hashed number kind client (side_of client kind).pending) Done) is) refl is_new
 
-pub gather_has_effect : (client : Client) (kind : Kind) → is_gather_void kind client ≡ false → IsSome (gather_effect hashed kind client)
+pub gather_has_effect : (number : ℕ) (client : Client) (kind : Kind) → is_gather_void kind client ≡ false → IsSome (gather_effect hashed number kind client)
 unfolding gather_effect
-gather_has_effect client kind is =
-    has_effect (is_gather_void kind client) (plain_effect (gathering hashed kind client (side_of client kind).pending) Done) is
+gather_has_effect number client kind is =
+    has_effect (is_gather_void kind client) (plain_effect (gathering hashed number kind client (side_of client kind).pending) Done) is
 
 pub ask_has_effect : (number event : ℕ) (client : Client) → is_busy client ≡ false → IsSome (ask_effect number event client)
 unfolding ask_effect
@@ -170,28 +172,29 @@ offer_done number event client birthday entries rest is is_birthday is_entries i
     (ap (λ held. record client { held = held; outstanding = Some event }) is_rest)
 
 -- an offer of a preference as an entry
-plain_entry : (offer : Offer) → IsOfferOf Preference offer → IsPlainValue offer.value → IsPlain (entry_of Preference None 0 offer)
+plain_entry : (offer : Offer) → IsOfferOf Preference offer → IsPlainValue offer.value → IsPlain (entry_of no_draws Preference None 0 offer)
 plain_entry offer fits plain = record {
   kind = refl;
   hash = fits.hash;
   value = plain;
   unlocked = refl;
+  undrawn = refl;
   version = omega (arith, fits.known);
 }
 
 -- nothing seals what is offered of preferences
 sealed_plain : (offers : List Offer) → AllByRecursion (IsOfferOf Preference) offers → AllByRecursion HasPlainValue offers
-    → AllByRecursion IsPlain (sealed Preference None 0 offers)
+    → AllByRecursion IsPlain (sealed no_draws Preference None 0 offers)
 unfolding sealed
 sealed_plain [] all plain = tt
 sealed_plain (offer ∷ offers) all plain =
-    subst (λ lock. AllByRecursion IsPlain (entry_of Preference lock 0 offer ∷ sealed Preference None (drawn_after lock 0) offers))
+    subst (λ lock. AllByRecursion IsPlain (entry_of no_draws Preference lock 0 offer ∷ sealed no_draws Preference None (drawn_after lock 0) offers))
     (sym (either_way (is_absent offer.value))) (plain_entry offer all.0 plain.0, sealed_plain offers all.1 plain.1)
 
 -- what is offered of a type that is preferences, whose values are plain
 offers_plain : (kind : Kind) (offers items : List Offer) (room : ℕ) (states : States) → kind ≡ Preference → items ≡ offers
     → AllByRecursion (IsOfferOf kind) offers → offers ≡ offers_of None room states → HavePlainValues states
-    → AllByRecursion IsPlain (sealed Preference None 0 items)
+    → AllByRecursion IsPlain (sealed no_draws Preference None 0 items)
 offers_plain kind offers items room states is same all are plain =
     sealed_plain items (rw (same, ← is) all) (subst (AllByRecursion HasPlainValue) (sym (same ∙ are)) (asked_plain room states plain))
   where
@@ -208,22 +211,22 @@ offers_plain kind offers items room states is same all are plain =
 
 -- what is held and the offers that join it
 pub joined_plain : (held joined : List (Entry Content)) (kind : Kind) (offers items : List Offer) (room : ℕ) (states : States)
-    → joined ≡ held ++ sealed Preference None 0 items → AllByRecursion IsPlain held → kind ≡ Preference → items ≡ offers
+    → joined ≡ held ++ sealed no_draws Preference None 0 items → AllByRecursion IsPlain held → kind ≡ Preference → items ≡ offers
     → AllByRecursion (IsOfferOf kind) offers → offers ≡ offers_of None room states → HavePlainValues states → AllByRecursion IsPlain joined
 joined_plain held joined kind offers items room states is plain is_kind same all are values =
     subst (λ (all : List (Entry Content)). AllByRecursion IsPlain all) (sym is)
-    (all_append IsPlain held (sealed Preference None 0 items) plain (offers_plain kind offers items room states is_kind same all are values))
+    (all_append IsPlain held (sealed no_draws Preference None 0 items) plain (offers_plain kind offers items room states is_kind same all are values))
 
 -- no more are offered than there is room for
 pub few_offers : (room : ℕ) (offers : List Offer) (states : States) → offers ≡ offers_of None room states → length offers ≤ room
 few_offers room offers states is = omega (arith, ap length is, length-take room (due_offers states ++ reseal_offers None states))
 
 -- nothing of another type is to be sent
-pub idle_kind : (inside : Inside) (kind : Kind) → (kind ≡ Preference → ⊥) → inside.nigori.processor.states ≡ [] → inside.password.processor.states ≡ []
-    → client_of inside ≡ gathering hashed kind (client_of inside) (side_of (client_of inside) kind).pending
-idle_kind inside Nigori other keys logins = idle (client_of inside) Nigori keys
-idle_kind inside Preference other keys logins = absurd (other refl)
-idle_kind inside Password other keys logins = idle (client_of inside) Password logins
+pub idle_kind : (number : ℕ) (inside : Inside) (kind : Kind) → (kind ≡ Preference → ⊥) → inside.nigori.processor.states ≡ [] → inside.password.processor.states ≡ []
+    → client_of inside ≡ gathering hashed number kind (client_of inside) (side_of (client_of inside) kind).pending
+idle_kind number inside Nigori other keys logins = idle number (client_of inside) Nigori keys
+idle_kind number inside Preference other keys logins = absurd (other refl)
+idle_kind number inside Password other keys logins = idle number (client_of inside) Password logins
 
 -- the marks that a client asks with fit
 pub plain_marks : (first second third : ℕ) (marks : List Marker) → first < 2 ^ 64 → second < 2 ^ 64 → third < 2 ^ 64 → marks ≡ marks_with first second third

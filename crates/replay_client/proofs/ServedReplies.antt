@@ -47,7 +47,7 @@ all_versioned history (entry ∷ entries) = (versioned history entry, all_versio
 -- a plain write as a reply gives it
 given : (write : Entry Content) (version : ℕ) (wanted : Bool) → IsPlain write → version ≤ LAST_VERSION → AllByRecursion IsPlainWrite (cond wanted (as_given version write ∷ []) [])
 given write version true plain most =
-    (record { plain = record { kind = plain.kind; hash = plain.hash; value = plain.value; unlocked = plain.unlocked; version = omega (arith, most) }; version = most }, tt)
+    (record { plain = record { kind = plain.kind; hash = plain.hash; value = plain.value; unlocked = plain.unlocked; undrawn = plain.undrawn; version = omega (arith, most) }; version = most }, tt)
 given write version false plain most = tt
 
 all_given : (marks : List Marker) (whole history : List (Entry Content)) → AllByRecursion IsPlain history → length history ≤ LAST_VERSION → AllByRecursion IsPlainWrite (wanted_writes marks whole history)

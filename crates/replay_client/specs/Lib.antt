@@ -1,3 +1,4 @@
+pub mod Draws
 pub mod Happenings
 pub mod Mail
 pub mod Requests

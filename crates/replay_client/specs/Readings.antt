@@ -3,7 +3,6 @@ use Rattle.std.specs.Prelude.{ℕ, Bool, ◌==◌, nat_le, if◌then◌else◌, 
 use Rattle.std.specs.Int.{w64, cast_unsigned}
 use Rattle.client_tags.specs.declared.Kind.{Kind}
 use Rattle.client_tags.specs.declared.Kind.TheVariants as kinds
-use Rattle.client_tags.specs.declared.hash.TagHash.{TagHash}
 use Rattle.sync_specifics.specs.declared.specifics.Specifics.{Specifics}
 use Rattle.sync_specifics.specs.declared.specifics.Specifics.TheVariants as specifics
 use Rattle.sync_values.specs.declared.value.Value.{Value}
@@ -26,7 +25,7 @@ use Rattle.sync_model.specs.declared.message.Task.TheVariants.{Batch as Updating
 use Rattle.sync_model.specs.declared.message.Update.{Update}
 use Rattle.sync_model.specs.Receiving.{ack_of, letter_of}
 use Rattle.sync_model.specs.Servers.{mark_of}
-use Rattle.loopback_server.specs.Messages.{marker_in}
+use Rattle.replay_messages.specs.Replies.{marker_in}
 use Rattle.type_processor.specs.Fits.{LAST_VERSION}
 use Rattle.replay_client.specs.declared.letters.Letters.{Letters}
 use Rattle.replay_client.specs.Mail.{IsPlainTask, IsIdleTask}
@@ -57,13 +56,13 @@ value_read deleted (specifics.Preference preference) = Some (if deleted then Abs
 value_read deleted _ = None
 
 -- the update of a key to a value, if there is one, and if there is such a version
-abbrev pub update_at : TagHash → ℕ → Option Value → List Update
+abbrev pub update_at : List ℕ → ℕ → Option Value → List Update
 update_at hash version None = []
 update_at hash version (Some value) =
-    if nat_le version LAST_VERSION then (record { hash = hash.bytes; version = version; value = value; lock = None }) ∷ [] else []
+    if nat_le version LAST_VERSION then (record { hash = hash; version = version; value = value; lock = None }) ∷ [] else []
 
 -- the update of an entity with this hash and these specifics, if it has both
-abbrev pub update_by : Entity → Option TagHash → Option Specifics → List Update
+abbrev pub update_by : Entity → Option (List ℕ) → Option Specifics → List Update
 update_by entity (Some hash) (Some specifics) = update_at hash (cast_unsigned w64 entity.version) (value_read entity.deleted specifics)
 update_by entity _ _ = []
 

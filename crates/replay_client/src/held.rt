@@ -2,6 +2,7 @@
 ghost use Rattle.std.specs.Prelude.{◌≡◌, ◌+◌, ◌-◌, ◌≤◌, ◌++◌, length, vec_len, vec_capacity, None};
 ghost use Rattle.client_tags.specs.declared.Kind.TheVariants.{Preference as preference_kind};
 ghost use Rattle.sync_model.specs.Sending.{holds_kind, entry_of, sealed};
+ghost use Rattle.replay_client.specs.Draws.{no_draws};
 
 use client_tags::Kind;
 use std::collections::VecDeque;
@@ -26,7 +27,7 @@ pub(crate) fn holds(kind: Kind, held: &[Entry<Content>]) -> bool
 
 // An offer of a preference, which nothing seals, as an entry.
 fn entry_of(offer: Offer) -> Entry<Content>
-    ensures { result ≡ entry_of preference_kind None 0 offer }
+    ensures { result ≡ entry_of no_draws preference_kind None 0 offer }
 {
     Entry {
         key: Key {
@@ -46,7 +47,7 @@ fn entry_of(offer: Offer) -> Entry<Content>
 /// Puts offers of preferences to what is held, for which there is room.
 pub(crate) fn hold(held: &mut Vec<Entry<Content>>, offers: Vec<Offer>)
     requires { vec_len held.old + vec_len offers ≤ vec_capacity held.old }
-    ensures { held.new.items ≡ held.old.items ++ sealed preference_kind None 0 offers.items }
+    ensures { held.new.items ≡ held.old.items ++ sealed no_draws preference_kind None 0 offers.items }
 {
     let mut offers = VecDeque::from_vec(offers);
     'offers: while let Some(offer) = offers.pop_front() {

@@ -5,7 +5,7 @@ ghost use Rattle.sync_messages.specs.Laws.{HaveCanonicalExtras, HasCanonicalRepl
 ghost use Rattle.sync_model.specs.declared.message.Task.TheVariants.{Batch as Updating};
 ghost use Rattle.sync_model.specs.Receiving.{letter_of};
 ghost use Rattle.sync_model.specs.Servers.{mark_of};
-ghost use Rattle.loopback_server.specs.Messages.{marker_in};
+ghost use Rattle.replay_messages.specs.Replies.{marker_in};
 ghost use Rattle.replay_messages.specs.Forms.{IsPlainCall};
 ghost use Rattle.replay_client.specs.Readings.{batch_read, letters_of_updates, letters_read, ArePlainLetters};
 

@@ -1,5 +1,5 @@
 //! What a client makes of a reply: letters, which are posted to mailboxes, and turns that apply them.
-ghost use Rattle.std.specs.Prelude.{◌≡◌, None, IsSome, IfOk, OnErr};
+ghost use Rattle.std.specs.Prelude.{◌≡◌, ℕ, None, IsSome, IfOk, OnErr};
 ghost use Rattle.std.specs.Option.{option_or};
 ghost use Rattle.run_setting.specs.Hashed.{hashed};
 ghost use Rattle.sync_model.specs.declared.message.Content.{Content as ContentOf};
@@ -64,7 +64,7 @@ impl Client {
     ) -> Result<EventOutcome, NoMemory>
         requires plain { IsPlainCall request.now.call }
         requires canonical { HasCanonicalReply message.now.reply }
-        ensures happens { (reply : Reply ContentOf) → message.now ≡ reply_told request.now reply → IsReplyTo request.now.call reply.verdict
+        ensures happens { (seed : ℕ) (reply : Reply ContentOf) → message.now ≡ reply_told seed request.now reply → IsReplyTo request.now.call reply.verdict
             → IfOk result (λ outcome. HappensAlone (answer_effect request.now reply self.old) outcome self.old self.new) }
         ensures plain { IfOk result IsPlainOutcome }
         ensures err { OnErr result (self.new ≡ self.old) }

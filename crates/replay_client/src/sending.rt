@@ -1,5 +1,5 @@
 //! What a client sends: how it gathers entries, and the requests that it makes.
-ghost use Rattle.std.specs.Prelude.{◌≡◌, ◌<◌, ◌^◌, ◌||◌, ◌==◌, is_some, length, IsSome, IfOk, OnOk, OnErr};
+ghost use Rattle.std.specs.Prelude.{◌≡◌, ℕ, ◌<◌, ◌^◌, ◌||◌, ◌==◌, is_some, length, IsSome, IfOk, OnOk, OnErr};
 ghost use Rattle.std.specs.List.{AllByRecursion};
 ghost use Rattle.run_setting.specs.Hashed.{hashed};
 ghost use Rattle.sync_model.specs.Clients.{side_of};
@@ -51,7 +51,7 @@ impl Client {
 
     // What is to be sent of a type joins what is held. Only preferences have anything.
     fn take_offers(&mut self, kind: Kind) -> Result<(), NoMemory>
-        ensures ok { OnOk result (self.new ≡ gathering hashed kind self.old (side_of self.old kind).pending) }
+        ensures ok { OnOk result ((number : ℕ) → self.new ≡ gathering hashed number kind self.old (side_of self.old kind).pending) }
         ensures err { OnErr result (self.new ≡ self.old) }
     {
         let room = room_beside(&self.held);
@@ -65,13 +65,13 @@ impl Client {
         Ok(())
     }
 
-    /// What is to be sent of a type joins what is held, up to the size of a commit. It looks at each preference once,
-    /// and copies what it holds.
+    /// What is to be sent of a type joins what is held, up to the size of a commit. Nothing seals it, so the client's
+    /// number does not matter. It looks at each preference once, and copies what it holds.
     pub fn gather(&mut self, kind: Kind) -> Result<EventOutcome, NoMemory>
-        ensures happens { IfOk result (λ outcome. HappensAlone (gather_effect hashed kind self.old) outcome self.old self.new) }
+        ensures happens { IfOk result (λ outcome. (number : ℕ) → HappensAlone (gather_effect hashed number kind self.old) outcome self.old self.new) }
         ensures plain { IfOk result IsPlainOutcome }
         ensures err { OnErr result (self.new ≡ self.old) }
-        ensures memory { OnErr result (IsSome (gather_effect hashed kind self.old)) }
+        ensures memory { OnErr result ((number : ℕ) → IsSome (gather_effect hashed number kind self.old)) }
     {
         if self.cannot_gather(kind) {
             return Ok(EventOutcome::Void);

@@ -52,7 +52,7 @@ fn stored(alloc: Global, version: i64) -> Result<FromServer, NoMemory>
 }
 
 // A reply that tells one write of the preference, and that it is the last one.
-#[tactic(auto, using(loopback_server::proofs::NoExtra::no_extra))]
+#[tactic(auto, using(replay_messages::proofs::NoExtra::no_extra))]
 fn told(alloc: Global, version: i64, mark: u64, value: &[u8]) -> Result<FromServer, NoMemory>
     ensures { IfOk result (λ message. HasCanonicalReply message.reply) }
 {

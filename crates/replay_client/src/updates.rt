@@ -1,7 +1,6 @@
 //! What a reply's message says of preferences: acknowledgements and updates.
 ghost use Rattle.std.specs.Prelude.{◌≡◌, length, option_to_list, IfOk, IfSome};
 ghost use Rattle.std.specs.List.{AllByRecursion};
-ghost use Rattle.client_tags.specs.Hashes.{IsHash};
 ghost use Rattle.sync_messages.specs.Laws.{HaveCanonicalExtras};
 ghost use Rattle.sync_specifics.specs.Extras.{HasCanonicalExtra, HasCanonicalExtraIfSome};
 ghost use Rattle.replay_messages.specs.Forms.{IsPlain, IsPlainValue};
@@ -14,7 +13,7 @@ use std::alloc::Global;
 use sync_messages::{Entity, EntryAnswer, Outcome};
 use sync_model::{Ack, Content, Entry, Update, Value};
 use sync_specifics::Specifics;
-use wire_fields::{List, NoMemory, Octets};
+use wire_fields::{List, NoMemory};
 
 /// The last version that there is.
 const LAST_VERSION: u64 = (1 << 63) - 1;
@@ -31,7 +30,7 @@ fn ack_of(entry: &Entry<Content>, answer: &EntryAnswer) -> Result<Option<Ack>, N
         return Ok(None);
     }
     Ok(Some(Ack {
-        hash: entry.key.hash.copy()?,
+        hash: entry.key.hash,
         version,
         value: entry.content.value.copy()?,
         number: entry.content.number,
@@ -76,15 +75,8 @@ fn value_of(deleted: bool, specifics: &Specifics) -> Result<Option<Value>, NoMem
     }
 }
 
-fn hash_octets(alloc: Global, bytes: &[u8; 20]) -> Result<Octets, NoMemory>
-    ensures is { IfOk result (λ octets. octets ≡ bytes.now) }
-    ensures hash { IfOk result IsHash }
-{
-    Octets::from_slice(alloc, bytes)
-}
-
 // The update that an entity says, if it is of a preference that nothing seals.
-fn update_of(alloc: Global, entity: &Entity) -> Result<Option<Update>, NoMemory>
+fn update_of(entity: &Entity) -> Result<Option<Update>, NoMemory>
     requires { HasCanonicalExtraIfSome entity.now.specifics }
     ensures read { IfOk result (λ update. option_to_list update ≡ update_read entity.now) }
     ensures plain { IfOk result (λ update. IfSome update IsPlainUpdate) }
@@ -100,7 +92,7 @@ fn update_of(alloc: Global, entity: &Entity) -> Result<Option<Update>, NoMemory>
         return Ok(None);
     };
     Ok(Some(Update {
-        hash: hash_octets(alloc, &hash.bytes)?,
+        hash: *hash,
         version,
         value,
         lock: None,
@@ -116,7 +108,7 @@ pub(crate) fn updates_of(alloc: Global, mut entities: &[Entity]) -> Result<List<
 {
     let mut updates = List::new(alloc);
     'entities: while let [entity, later @ ..] = entities {
-        if let Some(update) = update_of(alloc, entity)? {
+        if let Some(update) = update_of(entity)? {
             updates.push(update)?;
         }
         entities = later;

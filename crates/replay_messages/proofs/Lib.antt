@@ -1,3 +1,5 @@
+pub mod NoExtra
+pub mod VectorRows
 mod Formed
 mod ToldBack
 pub mod PlainEntries

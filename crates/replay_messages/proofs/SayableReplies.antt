@@ -1,5 +1,5 @@
 -- Bytes can say the replies of a server of plain entries, and a client's requests.
-use Rattle.std.proofs.Common.{◌≡◌, ℕ, ◌+◌, ◌-◌, ◌<◌, ◌≤◌, ◌^◌, arith, Bool, true, false, List, [], ◌∷◌, ◌++◌, length, take, map, Option, Some, None, refl}
+use Rattle.std.proofs.Common.{◌≡◌, ℕ, ◌+◌, ◌-◌, ◌<◌, ◌≤◌, ◌^◌, arith, Bool, true, false, List, [], ◌∷◌, ◌++◌, length, take, map, Option, Some, None, refl, sym, subst}
 use Rattle.std.proofs.lemmas.List.{length-append}
 use Rattle.std.proofs.Math.Facts.{sfits_to_z}
 use Rattle.std.specs.Int.{w64, cast_signed}
@@ -26,12 +26,15 @@ use Rattle.sync_model.specs.History.{last_version, is_over_quota, answer_to, ans
 use Rattle.sync_model.specs.Servers.{mark_of, is_wanted, as_given, wanted_writes, MAX_UPDATES, last_given, new_mark, new_marker, new_markers, updates_of, verdict_on, is_foreign, NOT_MY_BIRTHDAY, reply_to}
 use Rattle.sync_model.specs.Values.{same_kind}
 use Rattle.sync_model.specs.Worlds.{STORE_BIRTHDAY, is_invalid_entry}
-use Rattle.loopback_server.specs.Messages.{told_answers, told_entity, told_marker, told_verdict, entries_of}
-use Rattle.replay_messages.specs.Forms.{plain_specifics, form, IsPlain, IsPlainCall, IsPlainValue, call_formed, verdict_formed}
+use Rattle.replay_messages.specs.Replies.{told_answers, told_entity, told_marker, told_verdict, entries_of}
+use Rattle.replay_messages.specs.Forms.{form, IsPlain, IsPlainCall, IsPlainValue, call_formed, verdict_formed}
 use Rattle.replay_messages.specs.Laws.{RepliesAreSayable}
+use Rattle.replay_messages.specs.Sealed.{plain_specifics, specifics_of}
 use Rattle.replay_messages.specs.Messages.{entity_of, call_told, reply_told}
-use Rattle.loopback_server.proofs.EachEntry.{all_of_both, all_of_first, all_mapped}
-use Rattle.replay_messages.proofs.PlainEntries.{wanted_are_plain}
+use Rattle.sync_model.proofs.TrueAcks.{all_append}
+use Rattle.sync_model.proofs.WantedWrites.{all_take}
+use Rattle.sync_model.proofs.EachEntry.{all_mapped}
+use Rattle.replay_messages.proofs.PlainEntries.{said_plainly, wanted_are_plain}
 
 fits : (version : ℕ) → version < 2 ^ 64 → FitsSigned w64 (cast_signed w64 version)
 fits version below = sfits_to_z {w = w64} {n = version} (omega (arith, below))
@@ -45,22 +48,28 @@ plain_canonical kind (values.Preference preference) plain = plain
 plain_canonical kind (values.Password password) plain = tt
 plain_canonical kind (values.Nigori nigori) plain = tt
 
-entry_sayable : (entry : Entry Content) → IsPlain entry → IsEntity (entity_of entry)
-entry_sayable entry plain = record {
+-- what an entry that nothing seals holds as specifics has a canonical extra
+held_canonical : (seed : ℕ) (entry : Entry Content) → IsPlain entry
+    → HasCanonicalExtra (specifics_of seed entry.key.kind entry.content.value entry.content.draw)
+held_canonical seed entry plain =
+    subst HasCanonicalExtra (sym (said_plainly seed entry plain)) (plain_canonical entry.key.kind entry.content.value plain.value)
+
+entry_sayable : (seed : ℕ) (entry : Entry Content) → IsPlain entry → IsEntity (entity_of seed entry)
+entry_sayable seed entry plain = record {
   fits = record { version = fits entry.version plain.version; hash = plain.hash };
-  extra = plain_canonical entry.key.kind entry.content.value plain.value;
+  extra = held_canonical seed entry plain;
 }
 
-entities_sayable : (entries : List (Entry Content)) → AllByRecursion IsPlain entries → AllByRecursion IsEntity (map entity_of entries)
-entities_sayable entries plain = all_mapped IsPlain IsEntity entity_of entry_sayable entries plain
+entities_sayable : (seed : ℕ) (entries : List (Entry Content)) → AllByRecursion IsPlain entries → AllByRecursion IsEntity (map (entity_of seed) entries)
+entities_sayable seed entries plain = all_mapped IsPlain IsEntity (entity_of seed) (entry_sayable seed) entries plain
 
 pub markers_sayable : (marks : List Marker) → AllByRecursion (λ (marker : Marker). marker.mark < 2 ^ 64) marks → AllByRecursion IsMarker (map told_marker marks)
 markers_sayable [] fit = tt
 markers_sayable (marker ∷ marks) fit = (fit.0, markers_sayable marks fit.1)
 
-pub call_sayable : (client : ℕ) (call : Call Content) → IsPlainCall call → IsSayableRequest (call_told client call)
-call_sayable client (calls.Commit entries) plain = entities_sayable entries plain
-call_sayable client (calls.Updates marks) plain = markers_sayable marks plain
+pub call_sayable : (seed client : ℕ) (call : Call Content) → IsPlainCall call → IsSayableRequest (call_told seed client call)
+call_sayable seed client (calls.Commit entries) plain = entities_sayable seed entries plain
+call_sayable seed client (calls.Updates marks) plain = markers_sayable marks plain
 
 -- the answers to a commit
 
@@ -111,15 +120,15 @@ answers_sayable (entry ∷ entries) (answer ∷ answers) fit =
 
 -- updates
 
-write_sayable : (entry : Entry Content) → IsPlain entry → IsEntity (told_entity (form entry))
-write_sayable entry plain = record {
+write_sayable : (seed : ℕ) (entry : Entry Content) → IsPlain entry → IsEntity (told_entity (form seed entry))
+write_sayable seed entry plain = record {
   fits = record { version = fits entry.version plain.version; hash = plain.hash };
-  extra = plain_canonical entry.key.kind entry.content.value plain.value;
+  extra = held_canonical seed entry plain;
 }
 
-writes_sayable : (entries : List (Entry Content)) → AllByRecursion IsPlain entries → AllByRecursion IsEntity (map told_entity (map form entries))
-writes_sayable [] plain = tt
-writes_sayable (entry ∷ entries) plain = (write_sayable entry plain.0, writes_sayable entries plain.1)
+writes_sayable : (seed : ℕ) (entries : List (Entry Content)) → AllByRecursion IsPlain entries → AllByRecursion IsEntity (map told_entity (map (form seed) entries))
+writes_sayable seed [] plain = tt
+writes_sayable seed (entry ∷ entries) plain = (write_sayable seed entry plain.0, writes_sayable seed entries plain.1)
 
 -- a write is given once at most
 few_given : (wanted : Bool) (version : ℕ) (write : Entry Content) → length (if wanted then as_given version write ∷ [] else []) ≤ 1
@@ -174,41 +183,41 @@ Fit marker = marker.mark < 2 ^ 64
 new_markers_fit : (marks : List Marker) (next : ℕ → ℕ) → AllByRecursion Fit marks → ((m : ℕ) → m < 2 ^ 64 → next m < 2 ^ 64)
     → AllByRecursion Fit (new_markers marks next)
 new_markers_fit marks next fit keeps =
-    all_of_both Fit (new_marker Nigori (mark_of Nigori marks) next ++ new_marker Preference (mark_of Preference marks) next)
+    all_append Fit (new_marker Nigori (mark_of Nigori marks) next ++ new_marker Preference (mark_of Preference marks) next)
     (new_marker Password (mark_of Password marks) next)
-    (all_of_both Fit (new_marker Nigori (mark_of Nigori marks) next) (new_marker Preference (mark_of Preference marks) next)
+    (all_append Fit (new_marker Nigori (mark_of Nigori marks) next) (new_marker Preference (mark_of Preference marks) next)
     (new_marker_fits Nigori (mark_of Nigori marks) next (mark_fits Nigori marks fit) keeps)
     (new_marker_fits Preference (mark_of Preference marks) next (mark_fits Preference marks fit) keeps))
     (new_marker_fits Password (mark_of Password marks) next (mark_fits Password marks fit) keeps)
 
-updates_sayable : (history : List (Entry Content)) (marks : List Marker) (wanted : List (Entry Content)) → length history < 2 ^ 63
+updates_sayable : (seed : ℕ) (history : List (Entry Content)) (marks : List Marker) (wanted : List (Entry Content)) → length history < 2 ^ 63
     → AllByRecursion Fit marks → AllByRecursion IsPlain wanted → length wanted ≤ length history
-    → IsSayableReply (told_verdict [] (verdict_formed (Updated (updates_of history marks wanted))))
-updates_sayable history marks wanted short fit plain few =
-    let given : AllByRecursion IsPlain (take MAX_UPDATES wanted) = all_of_first IsPlain MAX_UPDATES wanted plain in (
-      writes_sayable (take MAX_UPDATES wanted) given,
+    → IsSayableReply (told_verdict [] (verdict_formed seed (Updated (updates_of history marks wanted))))
+updates_sayable seed history marks wanted short fit plain few =
+    let given : AllByRecursion IsPlain (take MAX_UPDATES wanted) = all_take IsPlain MAX_UPDATES wanted plain in (
+      writes_sayable seed (take MAX_UPDATES wanted) given,
       omega (arith, short, few),
       markers_sayable (new_markers marks (new_mark history (take MAX_UPDATES wanted) (length wanted - MAX_UPDATES)))
           (new_markers_fit marks (new_mark history (take MAX_UPDATES wanted) (length wanted - MAX_UPDATES)) fit
           (λ (m : ℕ) below. new_mark_fits history (take MAX_UPDATES wanted) (length wanted - MAX_UPDATES) m short below (last_fits (take MAX_UPDATES wanted) given))),
     )
 
-verdict_sayable : (history : List (Entry Content)) (call : Call Content) → AllByRecursion IsPlain history → length history < 2 ^ 63 → IsPlainCall call
-    → IsSayableReply (told_verdict (entries_of (call_formed call)) (verdict_formed (verdict_on is_invalid_entry history call)))
-verdict_sayable history (calls.Commit entries) all short plain =
-    answers_sayable (map form entries) (answers_to is_invalid_entry history entries) (answers_fit history entries)
-verdict_sayable history (calls.Updates marks) all short plain =
-    updates_sayable history marks (wanted_writes marks history history) short plain (wanted_are_plain marks history all short)
+verdict_sayable : (seed : ℕ) (history : List (Entry Content)) (call : Call Content) → AllByRecursion IsPlain history → length history < 2 ^ 63 → IsPlainCall call
+    → IsSayableReply (told_verdict (entries_of (call_formed seed call)) (verdict_formed seed (verdict_on is_invalid_entry history call)))
+verdict_sayable seed history (calls.Commit entries) all short plain =
+    answers_sayable (map (form seed) entries) (answers_to is_invalid_entry history entries) (answers_fit history entries)
+verdict_sayable seed history (calls.Updates marks) all short plain =
+    updates_sayable seed history marks (wanted_writes marks history history) short plain (wanted_are_plain marks history all short)
     (few_wanted marks history history)
 
-verdict_unless_foreign : (foreign : Bool) (entries : List (Entry (Option Specifics))) (verdict : Verdict Content)
-    → IsSayableReply (told_verdict entries (verdict_formed verdict))
-    → IsSayableReply (told_verdict entries (verdict_formed (if foreign then Refused NOT_MY_BIRTHDAY else verdict)))
-verdict_unless_foreign true entries verdict sayable = (omega arith, omega arith)
-verdict_unless_foreign false entries verdict sayable = sayable
+verdict_unless_foreign : (seed : ℕ) (foreign : Bool) (entries : List (Entry (Option Specifics))) (verdict : Verdict Content)
+    → IsSayableReply (told_verdict entries (verdict_formed seed verdict))
+    → IsSayableReply (told_verdict entries (verdict_formed seed (if foreign then Refused NOT_MY_BIRTHDAY else verdict)))
+verdict_unless_foreign seed true entries verdict sayable = (omega arith, omega arith)
+verdict_unless_foreign seed false entries verdict sayable = sayable
 
 pub replies_are_sayable : RepliesAreSayable
 unfolding reply_to reply_told
-replies_are_sayable history request all short plain =
-    verdict_unless_foreign (is_foreign STORE_BIRTHDAY request.birthday) (entries_of (call_formed request.call))
-    (verdict_on is_invalid_entry history request.call) (verdict_sayable history request.call all short plain)
+replies_are_sayable seed history request all short plain =
+    verdict_unless_foreign seed (is_foreign STORE_BIRTHDAY request.birthday) (entries_of (call_formed seed request.call))
+    (verdict_on is_invalid_entry history request.call) (verdict_sayable seed history request.call all short plain)

@@ -1,11 +1,10 @@
--- What an entry that nothing seals holds as a message.
-use Rattle.std.specs.Prelude.{◌≡◌, ◌^◌, ◌<◌, map, Option, Some, None}
+-- Entries as a server has them, and those that nothing seals.
+use Rattle.std.specs.Prelude.{◌≡◌, ℕ, ◌^◌, ◌<◌, map, Option, Some, None}
 use Rattle.std.specs.List.{AllByRecursion}
 use Rattle.client_tags.specs.declared.Kind.{Kind}
 use Rattle.client_tags.specs.declared.Kind.TheVariants.{Preference as preference_kind}
 use Rattle.client_tags.specs.Hashes.{IsHash}
 use Rattle.sync_specifics.specs.declared.specifics.Specifics.{Specifics}
-use Rattle.sync_specifics.specs.declared.specifics.Specifics.TheVariants as specifics
 use Rattle.message_fields.specs.Unknown.{IsCanonicalExtra}
 use Rattle.sync_specifics.specs.Preferences.{preference_fields}
 use Rattle.sync_values.specs.declared.value.Value.{Value}
@@ -18,21 +17,14 @@ use Rattle.sync_model.specs.declared.message.Reply.{Reply}
 use Rattle.sync_model.specs.declared.message.Request.{Request}
 use Rattle.sync_model.specs.declared.message.Verdict.{Verdict}
 use Rattle.sync_model.specs.declared.message.Verdict.TheVariants as verdicts
+use Rattle.replay_messages.specs.Sealed.{specifics_of}
 
--- A value as specifics that nothing seals: a preference, or of a deletion the type alone. A login and a profile's
--- keys are never sent so, and show no more than their type.
-abbrev pub plain_specifics : Kind → Value → Specifics
-plain_specifics kind Absent = specifics.EmptyOf kind
-plain_specifics kind (Preference preference) = specifics.Preference preference
-plain_specifics kind (Password password) = specifics.EmptyOf kind
-plain_specifics kind (Nigori nigori) = specifics.EmptyOf kind
-
--- an entry as a server has it: with its specifics
-abbrev pub form : Entry Content → Entry (Option Specifics)
-form entry = record {
+-- an entry as a server has it, in a run of this seed: with its specifics
+abbrev pub form : ℕ → Entry Content → Entry (Option Specifics)
+form seed entry = record {
   key = entry.key;
   version = entry.version;
-  content = Some (plain_specifics entry.key.kind entry.content.value);
+  content = Some (specifics_of seed entry.key.kind entry.content.value entry.content.draw);
 }
 
 -- a preference with a canonical extra, or none
@@ -48,6 +40,7 @@ pub record IsPlain (entry : Entry Content) : Type 0 where
   pub hash : IsHash entry.key.hash
   pub value : IsPlainValue entry.content.value
   pub unlocked : entry.content.lock ≡ None
+  pub undrawn : entry.content.draw ≡ None
   pub version : entry.version < 2 ^ 64
 
 -- nothing seals the entries of a commit, and the marks fit their type
@@ -56,24 +49,24 @@ IsPlainCall (calls.Commit entries) = AllByRecursion IsPlain entries
 IsPlainCall (calls.Updates marks) = AllByRecursion (λ marker. marker.mark < 2 ^ 64) marks
 
 -- what a client asks, with the entries as a server has them
-abbrev pub call_formed : Call Content → Call (Option Specifics)
-call_formed (calls.Commit entries) = calls.Commit (map form entries)
-call_formed (calls.Updates marks) = calls.Updates marks
+abbrev pub call_formed : ℕ → Call Content → Call (Option Specifics)
+call_formed seed (calls.Commit entries) = calls.Commit (map (form seed) entries)
+call_formed seed (calls.Updates marks) = calls.Updates marks
 
 -- a request with its entries as a server has them
-abbrev pub request_formed : Request Content → Request (Option Specifics)
-request_formed request = record { birthday = request.birthday; call = call_formed request.call }
+abbrev pub request_formed : ℕ → Request Content → Request (Option Specifics)
+request_formed seed request = record { birthday = request.birthday; call = call_formed seed request.call }
 
 -- what a server says, with the entries as it has them
-abbrev pub verdict_formed : Verdict Content → Verdict (Option Specifics)
-verdict_formed (verdicts.Committed answers) = verdicts.Committed answers
-verdict_formed (verdicts.Updated updates) =
-    verdicts.Updated (record { entries = map form updates.entries; remaining = updates.remaining; marks = updates.marks })
-verdict_formed (verdicts.Refused code) = verdicts.Refused code
+abbrev pub verdict_formed : ℕ → Verdict Content → Verdict (Option Specifics)
+verdict_formed seed (verdicts.Committed answers) = verdicts.Committed answers
+verdict_formed seed (verdicts.Updated updates) =
+    verdicts.Updated (record { entries = map (form seed) updates.entries; remaining = updates.remaining; marks = updates.marks })
+verdict_formed seed (verdicts.Refused code) = verdicts.Refused code
 
 -- a reply with its entries as a server has them
-abbrev pub reply_formed : Reply Content → Reply (Option Specifics)
-reply_formed reply = record { birthday = reply.birthday; verdict = verdict_formed reply.verdict }
+abbrev pub reply_formed : ℕ → Reply Content → Reply (Option Specifics)
+reply_formed seed reply = record { birthday = reply.birthday; verdict = verdict_formed seed reply.verdict }
 
 -- nothing seals the entries that a server gives
 abbrev pub IsPlainVerdict : Verdict Content → Type 0

@@ -7,23 +7,23 @@ use Rattle.sync_model.specs.declared.message.Entry.{Entry}
 use Rattle.sync_model.specs.declared.message.Request.{Request}
 use Rattle.sync_model.specs.Servers.{reply_to, history_served}
 use Rattle.sync_model.specs.Worlds.{STORE_BIRTHDAY, is_invalid_entry}
-use Rattle.loopback_server.specs.Messages.{reply_for, history_for}
+use Rattle.replay_messages.specs.Replies.{reply_for, history_for}
 use Rattle.replay_messages.specs.Forms.{form, IsPlain, IsPlainCall, IsPlainReply}
 use Rattle.replay_messages.specs.Messages.{request_told, reply_told}
 
 -- the reply to a request's message is the message of the model's reply
 abbrev pub RepliesAgree : Type 0
 RepliesAgree =
-    (client : ℕ) (history : List (Entry Content)) (request : Request Content) → IsPlainCall request.call
-    → reply_for STORE_BIRTHDAY (map form history) (request_told client request)
-    ≡ reply_told request (reply_to is_invalid_entry STORE_BIRTHDAY history request)
+    (seed client : ℕ) (history : List (Entry Content)) (request : Request Content) → IsPlainCall request.call
+    → reply_for STORE_BIRTHDAY (map (form seed) history) (request_told seed client request)
+    ≡ reply_told seed request (reply_to is_invalid_entry STORE_BIRTHDAY history request)
 
 -- the history that a request's message leaves is the model's
 abbrev pub HistoriesAgree : Type 0
 HistoriesAgree =
-    (client : ℕ) (history : List (Entry Content)) (request : Request Content) → IsPlainCall request.call
-    → history_for STORE_BIRTHDAY (map form history) (request_told client request)
-    ≡ map form (history_served is_invalid_entry STORE_BIRTHDAY history request)
+    (seed client : ℕ) (history : List (Entry Content)) (request : Request Content) → IsPlainCall request.call
+    → history_for STORE_BIRTHDAY (map (form seed) history) (request_told seed client request)
+    ≡ map (form seed) (history_served is_invalid_entry STORE_BIRTHDAY history request)
 
 -- a history of plain entries stays one
 abbrev pub HistoriesStayPlain : Type 0
@@ -40,6 +40,6 @@ RepliesArePlain =
 -- bytes can say the reply of a server of plain entries
 abbrev pub RepliesAreSayable : Type 0
 RepliesAreSayable =
-    (history : List (Entry Content)) (request : Request Content) → AllByRecursion IsPlain history → length history < 2 ^ 63
+    (seed : ℕ) (history : List (Entry Content)) (request : Request Content) → AllByRecursion IsPlain history → length history < 2 ^ 63
     → IsPlainCall request.call
-    → IsSayable (reply_told request (reply_to is_invalid_entry STORE_BIRTHDAY history request))
+    → IsSayable (reply_told seed request (reply_to is_invalid_entry STORE_BIRTHDAY history request))

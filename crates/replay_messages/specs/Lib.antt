@@ -1,3 +1,6 @@
+pub mod Entries
+pub mod Replies
+pub mod Sealed
 pub mod Forms
 pub mod Messages
 pub mod Spelled

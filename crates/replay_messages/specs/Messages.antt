@@ -1,4 +1,4 @@
--- The requests and the replies of the model as messages.
+-- The requests and the replies of the model as messages, in a run of a seed.
 use Rattle.std.specs.Prelude.{ℕ, ◌==◌, if◌then◌else◌, List, [], ◌++◌, map, codes, Some}
 use Rattle.std.specs.Fmt.{decimal}
 use Rattle.std.specs.Int.{w64, cast_signed}
@@ -14,8 +14,9 @@ use Rattle.sync_model.specs.declared.message.Entry.{Entry}
 use Rattle.sync_model.specs.declared.message.Reply.{Reply}
 use Rattle.sync_model.specs.declared.message.Request.{Request}
 use Rattle.sync_model.specs.Values.{is_absent}
-use Rattle.loopback_server.specs.Messages.{id_of, told_marker, told_reply}
-use Rattle.replay_messages.specs.Forms.{plain_specifics, request_formed, reply_formed}
+use Rattle.replay_messages.specs.Replies.{id_of, told_marker, told_reply}
+use Rattle.replay_messages.specs.Forms.{request_formed, reply_formed}
+use Rattle.replay_messages.specs.Sealed.{specifics_of}
 
 -- the name that a client gives itself in a commit
 unfoldable pub guid_of : ℕ → List ℕ
@@ -26,24 +27,24 @@ abbrev pub id_based : Entry Content → List ℕ
 id_based entry = if entry.version == 0 then [] else id_of entry.key
 
 -- an entry as an entity of a commit
-abbrev pub entity_of : Entry Content → Entity
-entity_of entry = record {
+abbrev pub entity_of : ℕ → Entry Content → Entity
+entity_of seed entry = record {
   id = id_based entry;
   version = cast_signed w64 entry.version;
   deleted = is_absent entry.content.value;
-  specifics = Some (plain_specifics entry.key.kind entry.content.value);
-  hash = Some (record { bytes = entry.key.hash });
+  specifics = Some (specifics_of seed entry.key.kind entry.content.value entry.content.draw);
+  hash = Some entry.key.hash;
 }
 
 -- what a client asks as a message has it
-abbrev pub call_told : ℕ → Call Content → Asked
-call_told client (calls.Commit entries) = requests.Commit (record { guid = guid_of client; entries = map entity_of entries })
-call_told client (calls.Updates marks) = requests.Updates (record { marks = map told_marker marks })
+abbrev pub call_told : ℕ → ℕ → Call Content → Asked
+call_told seed client (calls.Commit entries) = requests.Commit (record { guid = guid_of client; entries = map (entity_of seed) entries })
+call_told seed client (calls.Updates marks) = requests.Updates (record { marks = map told_marker marks })
 
 -- a client's request as a message
-unfoldable pub request_told : ℕ → Request Content → ToServer
-request_told client request = record { birthday = request.birthday; request = call_told client request.call }
+unfoldable pub request_told : ℕ → ℕ → Request Content → ToServer
+request_told seed client request = record { birthday = request.birthday; request = call_told seed client request.call }
 
 -- the reply to a request as a message
-unfoldable pub reply_told : Request Content → Reply Content → FromServer
-reply_told request reply = told_reply (request_formed request) (reply_formed reply)
+unfoldable pub reply_told : ℕ → Request Content → Reply Content → FromServer
+reply_told seed request reply = told_reply (request_formed seed request) (reply_formed seed reply)

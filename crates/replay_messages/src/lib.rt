@@ -9,7 +9,7 @@ mod wire_record;
 pub use laws::server_agrees;
 pub use reading::{read_reply, read_request};
 pub use sync_messages::{FromServer, ToServer};
-pub use told::request_message;
+pub use told::{id_of, request_message};
 pub use wire_record::Record;
 
 #[cfg(test)]

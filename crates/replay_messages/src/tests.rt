@@ -1,8 +1,7 @@
 ghost use Rattle.std.specs.Prelude.{IfOk};
-ghost use Rattle.client_tags.specs.Hashes.{IsHash};
 ghost use Rattle.replay_messages.specs.Forms.{IsPlain, IsPlainCall, IsPlainValue};
 
-use client_tags::{Kind, tag_hash};
+use client_tags::{Kind, TagHash, tag_hash};
 use std::alloc::Global;
 use sync_model::{Call, Content, Entry, Key, Request, Value};
 use sync_values::Preference;
@@ -20,17 +19,16 @@ const SET_A: [u8; 60] =
 // The bytes of a reply without a birthday that says of one entry that it is stored as the write of version 7.
 const STORED: [u8; 8] = *b"\x0a\x06\x0b\x10\x01\x30\x07\x0c";
 
-fn hash_of_a(alloc: Global) -> Result<Octets, NoMemory>
-    ensures { IfOk result (λ hash. IsHash hash) }
-{
-    Octets::from_slice(alloc, &tag_hash(Kind::Preference, b"a").bytes)
+fn hash_of_a() -> TagHash {
+    tag_hash(Kind::Preference, b"a")
 }
 
-fn plain_entry(hash: Octets, version: u64, value: Value) -> Entry<Content>
-    requires hash { IsHash hash }
-    requires value { IsPlainValue value }
+fn plain_entry(hash: TagHash, version: u64, value: Value) -> Entry<Content>
+    requires { IsPlainValue value }
     ensures { IsPlain result }
 {
+    // It is known to have twenty bytes.
+    let _bytes = hash.as_bytes();
     Entry {
         key: Key {
             kind: Kind::Preference,
@@ -59,14 +57,16 @@ fn commit_of(alloc: Global, entry: Entry<Content>) -> Result<Request<Content>, N
 }
 
 // The request to store the preference `a` with the value `1`.
-#[tactic(auto, using(loopback_server::proofs::NoExtra::no_extra))]
+#[tactic(auto, using(crate::proofs::NoExtra::no_extra))]
 fn set_a(alloc: Global) -> Result<Request<Content>, NoMemory>
     ensures { IfOk result (λ request. IsPlainCall request.call) }
 {
     let name = Octets::from_slice(alloc, b"a")?;
     let value = Octets::from_slice(alloc, b"1")?;
-    let hash = hash_of_a(alloc)?;
     let extra = Octets::new(alloc);
     let preference = Preference { name, value, extra };
-    commit_of(alloc, plain_entry(hash, 0, Value::Preference(preference)))
+    commit_of(
+        alloc,
+        plain_entry(hash_of_a(), 0, Value::Preference(preference)),
+    )
 }

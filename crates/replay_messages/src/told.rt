@@ -1,14 +1,14 @@
 //! Requests as messages.
-ghost use Rattle.std.specs.Prelude.{◌≡◌, ◌==◌, if◌then◌else◌, [], map, IfOk};
+ghost use Rattle.std.specs.Prelude.{◌≡◌, ℕ, ◌==◌, if◌then◌else◌, [], map, IfOk};
 ghost use Rattle.std.specs.List.{AllByRecursion};
-ghost use Rattle.client_tags.specs.Hashes.{IsHash};
 ghost use Rattle.sync_messages.specs.Laws.{IsSayableRequest};
 ghost use Rattle.sync_model.specs.Values.{is_absent};
-ghost use Rattle.loopback_server.specs.Messages.{id_of, told_marker};
-ghost use Rattle.replay_messages.specs.Forms.{plain_specifics, IsPlain, IsPlainCall};
+ghost use Rattle.replay_messages.specs.Replies.{id_of, told_marker};
+ghost use Rattle.replay_messages.specs.Forms.{IsPlain, IsPlainCall};
+ghost use Rattle.replay_messages.specs.Sealed.{plain_specifics};
 ghost use Rattle.replay_messages.specs.Messages.{guid_of, entity_of, call_told, request_told};
 
-use client_tags::{Kind, TagHash};
+use client_tags::Kind;
 use itoa::Buffer;
 use progress_marker::Mark;
 use std::alloc::Global;
@@ -17,15 +17,16 @@ use sync_model::{Call, Content, Entry, Key, Marker, Request, Value};
 use sync_specifics::Specifics;
 use wire_fields::{List, NoMemory, Octets};
 
-/// A client's request as a message, in time linear in its size.
-#[tactic(auto, unfolding(crate::specs::Messages::request_told), using(crate::proofs::SayableReplies::call_sayable))]
+/// A client's request as a message, in time linear in its size. Nothing seals its entries, so it is the same in a run of
+/// any seed.
+#[tactic(auto, unfolding(crate::specs::Messages::request_told))]
 pub fn request_message(
     alloc: Global,
     client: u32,
     request: &Request<Content>,
 ) -> Result<ToServer, NoMemory>
     requires { IsPlainCall request.now.call }
-    ensures message { IfOk result (λ message. message ≡ request_told client request.now) }
+    ensures message { IfOk result (λ message. (seed : ℕ) → message ≡ request_told seed client request.now) }
     ensures sayable { IfOk result (λ message. IsSayableRequest message.request) }
 {
     Ok(ToServer {
@@ -45,7 +46,7 @@ fn copied(octets: &Option<Octets>) -> Result<Option<Octets>, NoMemory>
 
 fn told_call(alloc: Global, client: u32, call: &Call<Content>) -> Result<Asked, NoMemory>
     requires { IsPlainCall call.now }
-    ensures { IfOk result (λ asked. asked ≡ call_told client call.now) }
+    ensures { IfOk result (λ asked. (seed : ℕ) → asked ≡ call_told seed client call.now) }
 {
     match call {
         Call::Commit(entries) => Ok(Asked::Commit(Commit {
@@ -86,7 +87,7 @@ fn told_markers(alloc: Global, markers: &[Marker]) -> Result<List<ToldMarker>, N
 
 fn told_entries(alloc: Global, entries: &[Entry<Content>]) -> Result<List<Entity>, NoMemory>
     requires { AllByRecursion IsPlain entries.now }
-    ensures { IfOk result (λ told. told ≡ map entity_of entries.now) }
+    ensures { IfOk result (λ told. (seed : ℕ) → told ≡ map (entity_of seed) entries.now) }
 {
     let mut told = Vec::with_capacity(alloc, entries.len())?;
     for entry in entries {
@@ -97,26 +98,15 @@ fn told_entries(alloc: Global, entries: &[Entry<Content>]) -> Result<List<Entity
 
 fn told_entry(alloc: Global, entry: &Entry<Content>) -> Result<Entity, NoMemory>
     requires { IsPlain entry.now }
-    ensures { IfOk result (λ entity. entity ≡ entity_of entry.now) }
+    ensures { IfOk result (λ entity. (seed : ℕ) → entity ≡ entity_of seed entry.now) }
 {
-    let hash = hash_in(&entry.key.hash);
     Ok(Entity {
-        id: id_based(alloc, entry.version, entry.key.kind, &hash)?,
+        id: id_based(alloc, entry.version, &entry.key)?,
         version: entry.version.cast_signed(),
         deleted: is_absent(&entry.content.value),
         specifics: Some(plain_specifics(entry.key.kind, &entry.content.value)?),
-        hash: Some(hash),
+        hash: Some(entry.key.hash),
     })
-}
-
-// The bytes of a hash as a hash.
-fn hash_in(bytes: &Octets) -> TagHash
-    requires { IsHash bytes.now }
-    ensures { result.bytes ≡ bytes.now }
-{
-    let mut hash = [0; 20];
-    hash.copy_from_slice(bytes.as_slice());
-    TagHash { bytes: hash }
 }
 
 fn is_absent(value: &Value) -> bool
@@ -136,24 +126,24 @@ fn plain_specifics(kind: Kind, value: &Value) -> Result<Specifics, NoMemory>
 }
 
 // The name of the entity that an entry is based on; none where it is based on none.
-fn id_based(alloc: Global, version: u64, kind: Kind, hash: &TagHash) -> Result<Octets, NoMemory>
-    ensures { IfOk result (λ id. id ≡ (if version == 0 then [] else id_of (record { kind = kind; hash = hash.now.bytes }))) }
+fn id_based(alloc: Global, version: u64, key: &Key) -> Result<Octets, NoMemory>
+    ensures { IfOk result (λ id. id ≡ (if version == 0 then [] else id_of key.now)) }
 {
     if version == 0 {
         return Ok(Octets::new(alloc));
     }
-    id_of(alloc, kind, hash)
+    id_of(alloc, key)
 }
 
-// The server's name of an entity.
-#[tactic(auto, unfolding(loopback_server::specs::Messages::id_of))]
-fn id_of(alloc: Global, kind: Kind, hash: &TagHash) -> Result<Octets, NoMemory>
-    ensures { IfOk result (λ id. id ≡ id_of (record { kind = kind; hash = hash.now.bytes })) }
+/// The name that a server gives the entity of this key.
+#[tactic(auto, unfolding(crate::specs::Replies::id_of))]
+pub fn id_of(alloc: Global, key: &Key) -> Result<Octets, NoMemory>
+    ensures { IfOk result (λ id. id ≡ id_of key.now) }
 {
     let mut buffer = Buffer::new();
     let mut id = Vec::new(alloc);
-    id.extend_from_slice(buffer.format(kind.number()).as_bytes())?;
+    id.extend_from_slice(buffer.format(key.kind.number()).as_bytes())?;
     id.push(b'|')?;
-    id.extend_from_slice(&hash.text())?;
+    id.extend_from_slice(&key.hash.text())?;
     Ok(Octets::from_vec(id))
 }

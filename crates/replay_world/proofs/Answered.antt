@@ -44,7 +44,7 @@ answers_versioned history (entry ∷ entries) =
 
 given : (write : Entry Content) (version : ℕ) → IsPlain write → version ≤ LAST_VERSION → IsPlainWrite (as_given version write)
 given write version plain within = record {
-  plain = record { kind = plain.kind; hash = plain.hash; value = plain.value; unlocked = plain.unlocked; version = omega (arith, within) };
+  plain = record { kind = plain.kind; hash = plain.hash; value = plain.value; unlocked = plain.unlocked; undrawn = plain.undrawn; version = omega (arith, within) };
   version = within;
 }
 

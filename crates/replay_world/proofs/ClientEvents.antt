@@ -46,14 +46,14 @@ pub same_clients : (clients : List Client) (place : ℕ) (client new : Client) �
 same_clients clients place client new found is = ap (set clients place) (is ∙ found) ∙ set-get_or clients place client
 
 -- an event of a client changes the world by its effect
-pub affected_is : (history : List (Entry Content)) (outcomes : List EventOutcome) (before : List Client) (settled_before settled : List Settlement) (number : ℕ) (effect : Option Effect) (outcome : EventOutcome) (client new : Client)
+pub affected_is : (seed : ℕ) (history : List (Entry Content)) (outcomes : List EventOutcome) (before : List Client) (settled_before settled : List Settlement) (number : ℕ) (effect : Option Effect) (outcome : EventOutcome) (client new : Client)
     → number - 1 < length before → client ≡ get_or before (number - 1) client → Happens number effect outcome client new settled_before settled
-    → affected (world_with history outcomes before settled_before) number effect ≡ world_with history (outcome ∷ outcomes) (set before (number - 1) new) settled
+    → affected (world_with seed history outcomes before settled_before) number effect ≡ world_with seed history (outcome ∷ outcomes) (set before (number - 1) new) settled
 unfolding affected Happens
-affected_is history outcomes before settled_before settled number None outcome client new lt found happens =
-    λ i. world_with history (sym happens.0 i ∷ outcomes) (sym (same_clients before (number - 1) client new found happens.1) i) (sym happens.2 i)
-affected_is history outcomes before settled_before settled number (Some effect) outcome client new lt found happens =
-    λ i. world_with history (sym happens.0 i ∷ outcomes) ((with_client_at-set before (number - 1) effect.client lt ∙ ap (set before (number - 1)) (sym happens.1)) i) (sym happens.2 i)
+affected_is seed history outcomes before settled_before settled number None outcome client new lt found happens =
+    λ i. world_with seed history (sym happens.0 i ∷ outcomes) (sym (same_clients before (number - 1) client new found happens.1) i) (sym happens.2 i)
+affected_is seed history outcomes before settled_before settled number (Some effect) outcome client new lt found happens =
+    λ i. world_with seed history (sym happens.0 i ∷ outcomes) ((with_client_at-set before (number - 1) effect.client lt ∙ ap (set before (number - 1)) (sym happens.1)) i) (sym happens.2 i)
 
 -- an event of a client that is there
 acted_is : (world : World) (number : ℕ) (event : Client → Option Effect) (client : Client) → 0 < number → client ≡ client_at world.clients number
@@ -64,11 +64,11 @@ acted_is world (suc place) event client above is = ap (λ (at : Client). affecte
 -- an event of a client, from what it makes of that client
 pub acts_is : (number : ℕ) (event : Client → Option Effect) (before : List Client) (settled_before settled : List Settlement) (outcome : EventOutcome) (client new : Client)
     → IsNumber (length before) number → client ≡ get_or before (number - 1) client → Happens number (event client) outcome client new settled_before settled
-    → (history : List (Entry Content)) (outcomes : List EventOutcome)
-    → acted (world_with history outcomes before settled_before) number event ≡ world_with history (outcome ∷ outcomes) (set before (number - 1) new) settled
-acts_is number event before settled_before settled outcome client new is found happens history outcomes =
-    acted_is (world_with history outcomes before settled_before) number event client (omega (arith, is.from_one)) (client_found before number client is found)
-    ∙ affected_is history outcomes before settled_before settled number (event client) outcome client new (omega (arith, is.from_one, is.within)) found happens
+    → (seed : ℕ) (history : List (Entry Content)) (outcomes : List EventOutcome)
+    → acted (world_with seed history outcomes before settled_before) number event ≡ world_with seed history (outcome ∷ outcomes) (set before (number - 1) new) settled
+acts_is number event before settled_before settled outcome client new is found happens seed history outcomes =
+    acted_is (world_with seed history outcomes before settled_before) number event client (omega (arith, is.from_one)) (client_found before number client is found)
+    ∙ affected_is seed history outcomes before settled_before settled number (event client) outcome client new (omega (arith, is.from_one, is.within)) found happens
 
 -- an event that made no message, as it is kept
 pub acts_quietly : (number : ℕ) (event : Client → Option Effect) (before : List Client) (settled_before settled : List Settlement) (outcome : EventOutcome) (happened : Happened) (client new : Client)
@@ -78,8 +78,8 @@ pub acts_quietly : (number : ℕ) (event : Client → Option Effect) (before : L
 acts_quietly number event before settled_before settled outcome happened client new is found happens quiet same = record {
   quiet = quiet;
   counted = length-set before (number - 1) new;
-  acts = λ history outcomes. acts_is number event before settled_before settled outcome client new is found happens history outcomes
-      ∙ ap (λ (first : EventOutcome). world_with history (first ∷ outcomes) (set before (number - 1) new) settled) (sym (same history outcomes));
+  acts = λ seed history outcomes. acts_is number event before settled_before settled outcome client new is found happens seed history outcomes
+      ∙ ap (λ (first : EventOutcome). world_with seed history (first ∷ outcomes) (set before (number - 1) new) settled) (sym (same history outcomes));
 }
 
 -- an effect makes no message
@@ -115,11 +115,11 @@ quiet_turn setting number kind outcome client new settled_before settled happens
     quiet_outcome number (turn_effect_at setting client kind (side_of client kind) (side_of client kind).mailbox) outcome client new settled_before settled
     (quiet_turn_at setting client kind (side_of client kind) (side_of client kind).mailbox) happens
 
-pub quiet_gather : (setting : Setting) (kind : Kind) (outcome : EventOutcome) (client new : Client) → HappensAlone (gather_effect setting kind client) outcome client new → IsQuietOutcome outcome
+pub quiet_gather : (setting : Setting) (number : ℕ) (kind : Kind) (outcome : EventOutcome) (client new : Client) → HappensAlone (gather_effect setting number kind client) outcome client new → IsQuietOutcome outcome
 unfolding gather_effect
-quiet_gather setting kind outcome client new happens =
-    quiet_outcome 0 (gather_effect setting kind client) outcome client new [] []
-    (unless (is_gather_void kind client) (Some (plain_effect (gathering setting kind client (side_of client kind).pending) Done)) tt) (happens 0 [])
+quiet_gather setting number kind outcome client new happens =
+    quiet_outcome 0 (gather_effect setting number kind client) outcome client new [] []
+    (unless (is_gather_void kind client) (Some (plain_effect (gathering setting number kind client (side_of client kind).pending) Done)) tt) (happens 0 [])
 
 quiet_post_at : (setting : Setting) (client : Client) (kind : Kind) (side : Side) (letter : Option Task) → IsQuietEffect (post_effect_at setting client kind side letter)
 quiet_post_at setting client kind side None = tt
@@ -202,6 +202,6 @@ asks_is number event before outcome happened client asked new is found happens a
   kept = sent_kept number outcome happened sent;
   own = sent_own (length before) number outcome happened is sent;
   counted = length-set before (number - 1) new;
-  acts = λ history outcomes settled. acts_is number event before settled settled outcome client asked is found (happens number settled) history outcomes
-      ∙ (λ i. world_with history (sym (sent_is number (event client) outcome happened client asked asking happens sent history outcomes) i ∷ outcomes) (set before (number - 1) (sym same i)) settled);
+  acts = λ seed history outcomes settled. acts_is number event before settled settled outcome client asked is found (happens number settled) seed history outcomes
+      ∙ (λ i. world_with seed history (sym (sent_is number (event client) outcome happened client asked asking happens sent history outcomes) i ∷ outcomes) (set before (number - 1) (sym same i)) settled);
 }

@@ -5,7 +5,6 @@ use Rattle.std.proofs.lemmas.Bool.Decides.{eqb_tells}
 use Rattle.std.proofs.lemmas.List.{reverse-append, length-reverse, length-take-le, take_more, take-append-drop, get_or-set_other}
 use Rattle.std.proofs.lemmas.Grind.{get_or-set_at}
 use Rattle.std.specs.Prelude.{◌≢◌, ◌⊎◌, ◌||◌, ◌==◌, not, reverse, replicate}
-use Rattle.std.specs.List.{AllByRecursion}
 use Rattle.sync_model.specs.declared.message.Content.{Content}
 use Rattle.sync_model.specs.declared.message.Entry.{Entry}
 use Rattle.sync_model.specs.declared.message.Key.{Key}
@@ -15,7 +14,6 @@ use Rattle.sync_model.specs.Values.{same_key}
 use Rattle.sync_model.proofs.Histories.{last_version-le, at_top, write_at-le, write_at-newest, write_at-kept}
 use Rattle.sync_model.proofs.Writes.{same_key-true, same_key-refl}
 use Rattle.run_setting.specs.Hashed.{hashed}
-use Rattle.replay_messages.specs.Forms.{IsPlain}
 use Rattle.replay_world.specs.Reports.{is_base, HasBases, line_unless}
 
 ne-eqb : (a b : ℕ) → (a ≡ b → ⊥) → eqb a b ≡ false
@@ -111,15 +109,6 @@ based_under (write ∷ newer) older based = based_under newer older based.1
 write_under : (newer older : List (Entry Content)) (write : Entry Content) → write_at (newer ++ (write ∷ older)) (length older + 1) ≡ Some write
 write_under [] older write = write_at-newest write older
 write_under (newest ∷ newer) older write = write_at-kept newest (newer ++ (write ∷ older)) (length older + 1) write (write_under newer older write)
-
-all_under : (P : Entry Content → Type 0) (newer older : List (Entry Content)) (write : Entry Content) → AllByRecursion P (newer ++ (write ∷ older)) → P write
-all_under P [] older write all = all.0
-all_under P (newest ∷ newer) older write all = all_under P newer older write all.1
-
--- what holds of a write of a history, by its place among the writes
-pub plain_at : (writes : List (Entry Content)) (n : ℕ) (write : Entry Content) → AllByRecursion IsPlain (reverse writes) → n < length writes → write ≡ get_or writes n write → IsPlain write
-plain_at writes n write all lt is =
-    all_under IsPlain (reverse (drop (n + 1) writes)) (reverse (take n writes)) write (subst (λ (history : List (Entry Content)). AllByRecursion IsPlain history) (split_at writes n write lt is) all)
 
 based_at : (writes : List (Entry Content)) (n : ℕ) (write : Entry Content) → IsBased (reverse writes) → n < length writes → write ≡ get_or writes n write → IsBased (write ∷ reverse (take n writes))
 based_at writes n write based lt is =

@@ -92,7 +92,7 @@ delivers_nothing earlier event history are none = record {
   same = refl;
   own = λ clients. tt;
   kept = (tt, are);
-  delivers = λ clients settled. delivered_void (world_with history (outcomes_of history earlier) clients settled) event (outcome_at (outcomes_of history earlier) event)
+  delivers = λ seed clients settled. delivered_void (world_with seed history (outcomes_of history earlier) clients settled) event (outcome_at (outcomes_of history earlier) event)
       (no_ask history earlier event (kept_at earlier event) are refl none);
 }
 
@@ -126,8 +126,8 @@ delivers_reply earlier event before next count client request asked bytes are is
         },
         rest.kept,
       );
-      delivers = λ clients settled. ap (delivered (world_with before (outcomes_of before earlier) clients settled) event) at.is_outcome
-          ∙ (λ i. world_with (sym is_next i) (Delivered event (sym reply i) ∷ sym rest.same i) clients settled);
+      delivers = λ seed clients settled. ap (delivered (world_with seed before (outcomes_of before earlier) clients settled) event) at.is_outcome
+          ∙ (λ i. world_with seed (sym is_next i) (Delivered event (sym reply i) ∷ sym rest.same i) clients settled);
     }
 
 -- an answer of what is no delivery
@@ -137,7 +137,7 @@ unfolding outcomes_of
 receives_nothing history earlier event clients are none = record {
   quiet = tt;
   counted = refl;
-  receives = λ settled. answered_void (world_with history (outcomes_of history earlier) clients settled) (outcome_at (outcomes_of history earlier) event)
+  receives = λ seed settled. answered_void (world_with seed history (outcomes_of history earlier) clients settled) (outcome_at (outcomes_of history earlier) event)
       (no_reply history earlier event (kept_at earlier event) are refl none);
 }
 
@@ -187,16 +187,16 @@ is_told history earlier event request count bytes client asked sent are is is_re
 
 -- the bytes of a delivery's reply can be read
 pub reply_bytes : (asked : Request Content) (reply : Reply Content) (bytes : List ℕ) → IsReply asked reply bytes → IsReplyBytes bytes
-reply_bytes asked reply bytes says = record { message = reply_told asked reply; is_sayable = says.sayable; are_bytes = says.is_told }
+reply_bytes asked reply bytes says = record { message = reply_told 0 asked reply; is_sayable = says.sayable 0; are_bytes = says.is_told 0 }
 
 -- what an answer of a delivery is
-answered_is : (history : List (Entry Content)) (earlier : List Happened) (event request count : ℕ) (bytes : List ℕ) (number : ℕ) (asked : Request Content) (clients : List Client) (settled : List Settlement) (client : Client) (awaited : Bool)
+answered_is : (seed : ℕ) (history : List (Entry Content)) (earlier : List Happened) (event request count : ℕ) (bytes : List ℕ) (number : ℕ) (asked : Request Content) (clients : List Client) (settled : List Settlement) (client : Client) (awaited : Bool)
     → IsTold history earlier event request count bytes number asked → client ≡ client_at clients number → is_awaited client.outstanding request ≡ awaited
-    → answered (world_with history (outcomes_of history earlier) clients settled) (outcome_at (outcomes_of history earlier) event)
-    ≡ cond awaited (affected (world_with history (outcomes_of history earlier) clients settled) number (answer_effect asked (served_reply (history_at history count) asked) client))
-    (voided (world_with history (outcomes_of history earlier) clients settled))
-answered_is history earlier event request count bytes number asked clients settled client awaited told is_client is_awaited_so =
-    let world : World = world_with history (outcomes_of history earlier) clients settled in
+    → answered (world_with seed history (outcomes_of history earlier) clients settled) (outcome_at (outcomes_of history earlier) event)
+    ≡ cond awaited (affected (world_with seed history (outcomes_of history earlier) clients settled) number (answer_effect asked (served_reply (history_at history count) asked) client))
+    (voided (world_with seed history (outcomes_of history earlier) clients settled))
+answered_is seed history earlier event request count bytes number asked clients settled client awaited told is_client is_awaited_so =
+    let world : World = world_with seed history (outcomes_of history earlier) clients settled in
     let reply : Reply Content = served_reply (history_at history count) asked in
     ap (answered world) told.is_outcome
     ∙ ap (replied world request reply) told.made
@@ -211,8 +211,8 @@ unfolding outcomes_of
 receives_unawaited history earlier event request count bytes number asked clients client told is at unawaited = record {
   quiet = tt;
   counted = length-set clients (number - 1) client;
-  receives = λ settled. answered_is history earlier event request count bytes number asked clients settled client false told (client_found clients number client is at) unawaited
-      ∙ ap (λ (same : List Client). world_with history (Void ∷ outcomes_of history earlier) same settled) (sym (same_clients clients (number - 1) client client at refl));
+  receives = λ seed settled. answered_is seed history earlier event request count bytes number asked clients settled client false told (client_found clients number client is at) unawaited
+      ∙ ap (λ (same : List Client). world_with seed history (Void ∷ outcomes_of history earlier) same settled) (sym (same_clients clients (number - 1) client client at refl));
 }
 
 -- a reply that is waited for
@@ -225,9 +225,9 @@ unfolding outcomes_of
 receives_reply history earlier event request count bytes number asked clients client new outcome happened told is at awaited happens quiet same = record {
   quiet = quiet;
   counted = length-set clients (number - 1) new;
-  receives = λ settled. answered_is history earlier event request count bytes number asked clients settled client true told (client_found clients number client is at) awaited
-      ∙ affected_is history (outcomes_of history earlier) clients settled settled number (answer_effect asked (served_reply (history_at history count) asked) client) outcome client new (omega (arith, is.from_one, is.within)) at (happens number settled)
-      ∙ ap (λ (first : EventOutcome). world_with history (first ∷ outcomes_of history earlier) (set clients (number - 1) new) settled) (sym (same history (outcomes_of history earlier)));
+  receives = λ seed settled. answered_is seed history earlier event request count bytes number asked clients settled client true told (client_found clients number client is at) awaited
+      ∙ affected_is seed history (outcomes_of history earlier) clients settled settled number (answer_effect asked (served_reply (history_at history count) asked) client) outcome client new (omega (arith, is.from_one, is.within)) at (happens number settled)
+      ∙ ap (λ (first : EventOutcome). world_with seed history (first ∷ outcomes_of history earlier) (set clients (number - 1) new) settled) (sym (same history (outcomes_of history earlier)));
 }
 
 -- the client that a request is of is there

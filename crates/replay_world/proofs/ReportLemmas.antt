@@ -58,7 +58,7 @@ clients_all world clients n all out le same =
     sym (append-nil out) ∙ ap (λ (rest : List Client). out ++ clients_lines hashed world (n + 1) rest) (sym (drop_all n clients le)) ∙ same
 
 -- the whole report, and the digest
-pub report_is : (world : World) (digest start first second third fourth fifth sixth : List ℕ) → world.passes ≡ [] → digest ≡ sha256 (wire_record world.outcomes)
+pub report_is : (world : World) (digest start first second third fourth fifth sixth : List ℕ) → world.passes ≡ [] → digest ≡ sha256 (wire_record world.seed world.outcomes)
     → start ≡ []
     → first ≡ start ++ events_line world.outcomes
     → second ≡ first ++ server_line world.history

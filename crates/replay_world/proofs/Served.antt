@@ -21,7 +21,7 @@ use Rattle.sync_model.specs.Servers.{is_foreign, history_after, reply_to, histor
 use Rattle.sync_model.specs.Values.{same_key}
 use Rattle.sync_model.specs.Worlds.{STORE_BIRTHDAY, is_invalid_entry}
 use Rattle.sync_model.proofs.Versions.{history_served-IsBased}
-use Rattle.loopback_server.specs.Messages.{reply_for, history_for, request_in}
+use Rattle.replay_messages.specs.Replies.{reply_for, history_for, request_in}
 use Rattle.replay_messages.specs.Forms.{form, IsPlain, IsPlainCall}
 use Rattle.replay_messages.specs.Laws.{RepliesAgree, HistoriesAgree, HistoriesStayPlain, RepliesAreSayable}
 use Rattle.replay_messages.specs.Messages.{request_told, reply_told}
@@ -99,65 +99,66 @@ pub counted_more : (birthday : List ℕ) (history next : List (Entry (Option Spe
 counted_more birthday history next message before after is is_before is_after =
     omega (arith, is_before, is_after, longer_length next history (message_longer birthday history next message is))
 
-last_version-formed : (history : List (Entry Content)) (key : Key) → last_version (map form history) key ≡ last_version history key
-last_version-formed [] key = refl
-last_version-formed (write ∷ older) key =
-    λ i. cond (same_key write.key key) (length-map older form i + 1) (last_version-formed older key i)
+last_version-formed : (seed : ℕ) (history : List (Entry Content)) (key : Key) → last_version (map (form seed) history) key ≡ last_version history key
+last_version-formed seed [] key = refl
+last_version-formed seed (write ∷ older) key =
+    λ i. cond (same_key write.key key) (length-map older (form seed) i + 1) (last_version-formed seed older key i)
 
 -- the writes as a server has them are based as they are
-pub IsBased-formed : (history : List (Entry Content)) → IsBased history → IsBased (map form history)
-IsBased-formed [] based = tt
-IsBased-formed (write ∷ older) based = (based.0 ∙ sym (last_version-formed older write.key), IsBased-formed older based.1)
+pub IsBased-formed : (seed : ℕ) (history : List (Entry Content)) → IsBased history → IsBased (map (form seed) history)
+IsBased-formed seed [] based = tt
+IsBased-formed seed (write ∷ older) based = (based.0 ∙ sym (last_version-formed seed older write.key), IsBased-formed seed older based.1)
 
 -- the server's own history is based
 pub stored_based : (inside : Inside) → IsServer inside → IsBased inside.server.history
-stored_based inside is = subst (λ (history : List (Entry (Option Specifics))). IsBased history) (sym is.stored) (IsBased-formed (reverse inside.writes.items) is.based)
+stored_based inside is = subst (λ (history : List (Entry (Option Specifics))). IsBased history) (sym (is.stored 0)) (IsBased-formed 0 (reverse inside.writes.items) is.based)
 
 -- the reply to a request's message
-pub reply_is : (client : ℕ) (history : List (Entry Content)) (request : Request Content) (birthday : List ℕ) (stored : List (Entry (Option Specifics))) (message : ToServer) (reply : FromServer)
-    → RepliesAgree → birthday ≡ STORE_BIRTHDAY → stored ≡ map form history → IsPlainCall request.call → message ≡ request_told client request
-    → reply ≡ reply_for birthday stored message → reply ≡ reply_told request (reply_to is_invalid_entry STORE_BIRTHDAY history request)
-reply_is client history request birthday stored message reply agree is_birthday is_stored plain is_message is =
-    is ∙ (λ i. reply_for (is_birthday i) (is_stored i) (is_message i)) ∙ agree client history request plain
+pub reply_is : (seed client : ℕ) (history : List (Entry Content)) (request : Request Content) (birthday : List ℕ) (stored : List (Entry (Option Specifics))) (message : ToServer) (reply : FromServer)
+    → RepliesAgree → birthday ≡ STORE_BIRTHDAY → stored ≡ map (form seed) history → IsPlainCall request.call → message ≡ request_told seed client request
+    → reply ≡ reply_for birthday stored message → reply ≡ reply_told seed request (reply_to is_invalid_entry STORE_BIRTHDAY history request)
+reply_is seed client history request birthday stored message reply agree is_birthday is_stored plain is_message is =
+    is ∙ (λ i. reply_for (is_birthday i) (is_stored i) (is_message i)) ∙ agree seed client history request plain
 
 -- the server's own history after a request's message
-pub stored_is : (client : ℕ) (history : List (Entry Content)) (request : Request Content) (birthday : List ℕ) (stored next : List (Entry (Option Specifics))) (message : ToServer)
-    → HistoriesAgree → birthday ≡ STORE_BIRTHDAY → stored ≡ map form history → IsPlainCall request.call → message ≡ request_told client request
-    → next ≡ history_for birthday stored message → next ≡ map form (history_served is_invalid_entry STORE_BIRTHDAY history request)
-stored_is client history request birthday stored next message agree is_birthday is_stored plain is_message is =
-    is ∙ (λ i. history_for (is_birthday i) (is_stored i) (is_message i)) ∙ agree client history request plain
+pub stored_is : (seed client : ℕ) (history : List (Entry Content)) (request : Request Content) (birthday : List ℕ) (stored next : List (Entry (Option Specifics))) (message : ToServer)
+    → HistoriesAgree → birthday ≡ STORE_BIRTHDAY → stored ≡ map (form seed) history → IsPlainCall request.call → message ≡ request_told seed client request
+    → next ≡ history_for birthday stored message → next ≡ map (form seed) (history_served is_invalid_entry STORE_BIRTHDAY history request)
+stored_is seed client history request birthday stored next message agree is_birthday is_stored plain is_message is =
+    is ∙ (λ i. history_for (is_birthday i) (is_stored i) (is_message i)) ∙ agree seed client history request plain
 
 -- a server that keeps what a request made of its history is right
 pub still_server : (before after : Inside) (request : Request Content) → IsServer before → IsPlainCall request.call → HistoriesStayPlain
     → after.server.birthday ≡ STORE_BIRTHDAY
     → reverse after.writes.items ≡ history_served is_invalid_entry STORE_BIRTHDAY (reverse before.writes.items) request
-    → after.server.history ≡ map form (history_served is_invalid_entry STORE_BIRTHDAY (reverse before.writes.items) request)
+    → ((seed : ℕ) → after.server.history ≡ map (form seed) (history_served is_invalid_entry STORE_BIRTHDAY (reverse before.writes.items) request))
     → IsServer after
 still_server before after request is plain stay birthday written stored = record {
   birthday = birthday;
-  stored = stored ∙ ap (λ (history : List (Entry Content)). map form history) (sym written);
+  stored = λ seed. stored seed ∙ ap (λ (history : List (Entry Content)). map (form seed) history) (sym written);
   plain = subst (λ (history : List (Entry Content)). AllByRecursion IsPlain history) (sym written) (stay (reverse before.writes.items) request is.plain plain);
   based = subst (λ (history : List (Entry Content)). IsBased history) (sym written) (history_served-IsBased is_invalid_entry STORE_BIRTHDAY (reverse before.writes.items) request is.based);
 }
 
 -- the writes, the newest first, after what was stored of a request joined them
-pub kept_writes : (client : ℕ) (inside : Inside) (request : Request Content) (message : ToServer) (reply : FromServer) (written : List (Entry Content))
-    → RepliesAgree → IsServer inside → IsPlainCall request.call → message ≡ request_told client request
+pub kept_writes : (seed client : ℕ) (inside : Inside) (request : Request Content) (message : ToServer) (reply : FromServer) (written : List (Entry Content))
+    → RepliesAgree → IsServer inside → IsPlainCall request.call → message ≡ request_told seed client request
     → reply ≡ reply_for inside.server.birthday inside.server.history message
     → written ≡ inside.writes.items ++ stored_by (entries_of request.call) (answers_of reply.reply)
     → reverse written ≡ history_served is_invalid_entry STORE_BIRTHDAY (reverse inside.writes.items) request
-kept_writes client inside request message reply written agree is plain is_message is_reply is_written =
-    served_is inside.writes.items written request (is_written
+kept_writes seed client inside request message reply written agree is plain is_message is_reply is_written =
+    served_is seed inside.writes.items written request (is_written
     ∙ ap (λ (told : FromServer). inside.writes.items ++ stored_by (entries_of request.call) (answers_of told.reply))
-    (reply_is client (reverse inside.writes.items) request inside.server.birthday inside.server.history message reply agree is.birthday is.stored plain is_message is_reply))
+    (reply_is seed client (reverse inside.writes.items) request inside.server.birthday inside.server.history message reply agree is.birthday (is.stored seed) plain is_message is_reply))
 
 -- the bytes of the reply to a request's message
 pub told_reply : (client : ℕ) (inside : Inside) (request : Request Content) (message : ToServer) (reply : FromServer) (bytes : List ℕ)
-    → RepliesAgree → RepliesAreSayable → IsServer inside → IsPlainCall request.call → length (reverse inside.writes.items) < 2 ^ 63 → message ≡ request_told client request
+    → RepliesAgree → RepliesAreSayable → IsServer inside → IsPlainCall request.call → length (reverse inside.writes.items) < 2 ^ 63 → ((seed : ℕ) → message ≡ request_told seed client request)
     → reply ≡ reply_for inside.server.birthday inside.server.history message → bytes ≡ from_bytes reply
     → IsReply request (served_reply (reverse inside.writes.items) request) bytes
 told_reply client inside request message reply bytes agree say is plain within is_message is_reply is_bytes = record {
   answers = replies_answer (reverse inside.writes.items) request is.plain within;
-  is_told = is_bytes ∙ ap from_bytes (reply_is client (reverse inside.writes.items) request inside.server.birthday inside.server.history message reply agree is.birthday is.stored plain is_message is_reply);
-  sayable = say (reverse inside.writes.items) request is.plain within plain;
+  is_told = λ seed. is_bytes
+      ∙ ap from_bytes (reply_is seed client (reverse inside.writes.items) request inside.server.birthday inside.server.history message reply agree is.birthday (is.stored seed) plain (is_message seed) is_reply);
+  sayable = λ seed. say seed (reverse inside.writes.items) request is.plain within plain;
 }

@@ -28,23 +28,23 @@ use Rattle.replay_world.specs.Steps.{world_with, Acts, ActsAlone, Asks, Delivers
 use Rattle.replay_world.proofs.Kept.{outcomes_long}
 
 -- what an event adds to the record, by what is kept of it
-recorded_is : (history : List (Entry Content)) (outcomes : List EventOutcome) (happened : Happened) → IsKept history outcomes happened
-    → recorded outcomes (outcome_of history outcomes happened) ≡ sent happened
-recorded_is history outcomes kept.Void is = refl
-recorded_is history outcomes kept.Done is = refl
-recorded_is history outcomes (kept.Edited client kind number) is = refl
-recorded_is history outcomes (kept.Requested client request bytes) is = ap (framed REQUEST) (sym is.is_told)
-recorded_is history outcomes (kept.Delivered request before bytes) is =
-    (λ i. replied_bytes (is.made i) (reply_of (history_at history before) (is.made i)))
-    ∙ ap (framed REPLY) (sym is.says.is_told)
+recorded_is : (seed : ℕ) (history : List (Entry Content)) (outcomes : List EventOutcome) (happened : Happened) → IsKept history outcomes happened
+    → recorded seed outcomes (outcome_of history outcomes happened) ≡ sent happened
+recorded_is seed history outcomes kept.Void is = refl
+recorded_is seed history outcomes kept.Done is = refl
+recorded_is seed history outcomes (kept.Edited client kind number) is = refl
+recorded_is seed history outcomes (kept.Requested client request bytes) is = ap (framed REQUEST) (sym (is.is_told seed))
+recorded_is seed history outcomes (kept.Delivered request before bytes) is =
+    (λ i. replied_bytes seed (is.made i) (reply_of (history_at history before) (is.made i)))
+    ∙ ap (framed REPLY) (sym (is.says.is_told seed))
 
-record_more : (before history : List (Entry Content)) (earlier : List Happened) (happened : Happened) → outcomes_of history earlier ≡ outcomes_of before earlier
+record_more : (seed : ℕ) (before history : List (Entry Content)) (earlier : List Happened) (happened : Happened) → outcomes_of history earlier ≡ outcomes_of before earlier
     → IsKept history (outcomes_of history earlier) happened
-    → wire_record (outcomes_of history (happened ∷ earlier)) ≡ wire_record (outcomes_of before earlier) ++ sent happened
+    → wire_record seed (outcomes_of history (happened ∷ earlier)) ≡ wire_record seed (outcomes_of before earlier) ++ sent happened
 unfolding outcomes_of wire_record
-record_more before history earlier happened same is =
-    ap (λ bytes. wire_record (outcomes_of history earlier) ++ bytes) (recorded_is history (outcomes_of history earlier) happened is)
-    ∙ ap (λ (outcomes : List EventOutcome). wire_record outcomes ++ sent happened) same
+record_more seed before history earlier happened same is =
+    ap (λ bytes. wire_record seed (outcomes_of history earlier) ++ bytes) (recorded_is seed history (outcomes_of history earlier) happened is)
+    ∙ ap (λ (outcomes : List EventOutcome). wire_record seed outcomes ++ sent happened) same
 
 quiet_kept : (history : List (Entry Content)) (outcomes : List EventOutcome) (happened : Happened) → IsQuiet happened → IsKept history outcomes happened
 quiet_kept history outcomes kept.Void quiet = tt
@@ -60,22 +60,22 @@ quiet_own clients (kept.Edited client kind number) quiet = tt
 quiet_own clients (kept.Requested client request bytes) quiet = absurd quiet
 quiet_own clients (kept.Delivered request before bytes) quiet = absurd quiet
 
-module _ (event : Event) (earlier : List Happened) (history : List (Entry Content)) (before clients : List Client) (are : AreKept history earlier) where
+module _ (seed : ℕ) (event : Event) (earlier : List Happened) (history : List (Entry Content)) (before clients : List Client) (are : AreKept history earlier) where
   acts_steps : (settled_before settled : List Settlement) (happened : Happened) (number : ℕ) (effect : Client → Option Effect)
       → ((world : World) → stepped hashed event world ≡ acted world number effect) → Acts number effect before clients settled_before settled happened
-      → Steps event earlier history history before clients settled_before settled happened
+      → Steps seed event earlier history history before clients settled_before settled happened
   unfolding AreKept outcomes_of
   acts_steps settled_before settled happened number effect is acts = record {
     own = quiet_own (length clients) happened acts.quiet;
     kept = (quiet_kept history (outcomes_of history earlier) happened acts.quiet, are);
     counted = acts.counted;
-    recorded = record_more history history earlier happened refl (quiet_kept history (outcomes_of history earlier) happened acts.quiet);
-    steps = is (world_with history (outcomes_of history earlier) before settled_before) ∙ acts.acts history (outcomes_of history earlier);
+    recorded = record_more seed history history earlier happened refl (quiet_kept history (outcomes_of history earlier) happened acts.quiet);
+    steps = is (world_with seed history (outcomes_of history earlier) before settled_before) ∙ acts.acts seed history (outcomes_of history earlier);
   }
 
   asks_steps : (settled : List Settlement) (happened : Happened) (number : ℕ) (effect : ℕ → Client → Option Effect) (next : ℕ) → next ≡ length earlier + 1
       → ((world : World) → stepped hashed event world ≡ acted world number (effect (length world.outcomes + 1))) → Asks number (effect next) before clients happened
-      → Steps event earlier history history before clients settled settled happened
+      → Steps seed event earlier history history before clients settled settled happened
   unfolding AreKept outcomes_of
   asks_steps settled happened number effect next is_next is asks =
       let same : length (outcomes_of history earlier) + 1 ≡ next = ap (λ n. n + 1) (outcomes_long history earlier) ∙ sym is_next in
@@ -83,76 +83,76 @@ module _ (event : Event) (earlier : List Happened) (history : List (Entry Conten
         own = subst (λ count. IsOfClient count happened) (sym asks.counted) asks.own;
         kept = (asks.kept history (outcomes_of history earlier), are);
         counted = asks.counted;
-        recorded = record_more history history earlier happened refl (asks.kept history (outcomes_of history earlier));
-        steps = is (world_with history (outcomes_of history earlier) before settled)
-            ∙ ap (λ n. acted (world_with history (outcomes_of history earlier) before settled) number (effect n)) same
-            ∙ asks.acts history (outcomes_of history earlier) settled;
+        recorded = record_more seed history history earlier happened refl (asks.kept history (outcomes_of history earlier));
+        steps = is (world_with seed history (outcomes_of history earlier) before settled)
+            ∙ ap (λ n. acted (world_with seed history (outcomes_of history earlier) before settled) number (effect n)) same
+            ∙ asks.acts seed history (outcomes_of history earlier) settled;
       }
 
 pub edit_steps : (event : Event) (earlier : List Happened) (history : List (Entry Content)) (before clients : List Client) (settled_before settled : List Settlement) (happened : Happened) (number : ℕ) (edit : Change)
     → AreKept history earlier → event ≡ Edit number edit → Acts number (change_effect hashed number edit) before clients settled_before settled happened
-    → Steps event earlier history history before clients settled_before settled happened
+    → (seed : ℕ) → Steps seed event earlier history history before clients settled_before settled happened
 unfolding stepped
-edit_steps event earlier history before clients settled_before settled happened number edit are is acts =
-    acts_steps event earlier history before clients are settled_before settled happened number (change_effect hashed number edit) (λ world. ap (λ (e : Event). stepped hashed e world) is) acts
+edit_steps event earlier history before clients settled_before settled happened number edit are is acts seed =
+    acts_steps seed event earlier history before clients are settled_before settled happened number (change_effect hashed number edit) (λ world. ap (λ (e : Event). stepped hashed e world) is) acts
 
 pub turn_steps : (event : Event) (earlier : List Happened) (history : List (Entry Content)) (before clients : List Client) (settled_before settled : List Settlement) (happened : Happened) (number : ℕ) (kind : Kind)
     → AreKept history earlier → event ≡ Turn number kind → Acts number (turn_effect hashed kind) before clients settled_before settled happened
-    → Steps event earlier history history before clients settled_before settled happened
+    → (seed : ℕ) → Steps seed event earlier history history before clients settled_before settled happened
 unfolding stepped
-turn_steps event earlier history before clients settled_before settled happened number kind are is acts =
-    acts_steps event earlier history before clients are settled_before settled happened number (turn_effect hashed kind) (λ world. ap (λ (e : Event). stepped hashed e world) is) acts
+turn_steps event earlier history before clients settled_before settled happened number kind are is acts seed =
+    acts_steps seed event earlier history before clients are settled_before settled happened number (turn_effect hashed kind) (λ world. ap (λ (e : Event). stepped hashed e world) is) acts
 
 pub gather_steps : (event : Event) (earlier : List Happened) (history : List (Entry Content)) (before clients : List Client) (settled : List Settlement) (happened : Happened) (number : ℕ) (kind : Kind)
-    → AreKept history earlier → event ≡ Gather number kind → ActsAlone number (gather_effect hashed kind) before clients happened
-    → Steps event earlier history history before clients settled settled happened
+    → AreKept history earlier → event ≡ Gather number kind → ActsAlone number (gather_effect hashed number kind) before clients happened
+    → (seed : ℕ) → Steps seed event earlier history history before clients settled settled happened
 unfolding stepped
-gather_steps event earlier history before clients settled happened number kind are is acts =
-    acts_steps event earlier history before clients are settled settled happened number (gather_effect hashed kind) (λ world. ap (λ (e : Event). stepped hashed e world) is) (acts settled)
+gather_steps event earlier history before clients settled happened number kind are is acts seed =
+    acts_steps seed event earlier history before clients are settled settled happened number (gather_effect hashed number kind) (λ world. ap (λ (e : Event). stepped hashed e world) is) (acts settled)
 
 pub post_steps : (event : Event) (earlier : List Happened) (history : List (Entry Content)) (before clients : List Client) (settled : List Settlement) (happened : Happened) (number : ℕ) (kind : Kind)
     → AreKept history earlier → event ≡ Post number kind → ActsAlone number (post_effect hashed kind) before clients happened
-    → Steps event earlier history history before clients settled settled happened
+    → (seed : ℕ) → Steps seed event earlier history history before clients settled settled happened
 unfolding stepped
-post_steps event earlier history before clients settled happened number kind are is acts =
-    acts_steps event earlier history before clients are settled settled happened number (post_effect hashed kind) (λ world. ap (λ (e : Event). stepped hashed e world) is) (acts settled)
+post_steps event earlier history before clients settled happened number kind are is acts seed =
+    acts_steps seed event earlier history before clients are settled settled happened number (post_effect hashed kind) (λ world. ap (λ (e : Event). stepped hashed e world) is) (acts settled)
 
 pub ask_steps : (event : Event) (happened_before : List Happened) (history : List (Entry Content)) (before clients : List Client) (settled : List Settlement) (happened : Happened) (number : ℕ)
     → AreKept history (reverse happened_before) → event ≡ Ask number → Asks number (ask_effect number (length happened_before + 1)) before clients happened
-    → Steps event (reverse happened_before) history history before clients settled settled happened
+    → (seed : ℕ) → Steps seed event (reverse happened_before) history history before clients settled settled happened
 unfolding stepped
-ask_steps event happened_before history before clients settled happened number are is asks =
-    asks_steps event (reverse happened_before) history before clients are settled happened number (ask_effect number) (length happened_before + 1) (ap (λ n. n + 1) (sym (length-reverse happened_before)))
+ask_steps event happened_before history before clients settled happened number are is asks seed =
+    asks_steps seed event (reverse happened_before) history before clients are settled happened number (ask_effect number) (length happened_before + 1) (ap (λ n. n + 1) (sym (length-reverse happened_before)))
     (λ world. ap (λ (e : Event). stepped hashed e world) is) asks
 
 pub offer_steps : (event : Event) (happened_before : List Happened) (history : List (Entry Content)) (before clients : List Client) (settled : List Settlement) (happened : Happened) (number : ℕ)
     → AreKept history (reverse happened_before) → event ≡ Offer number → Asks number (offer_effect number (length happened_before + 1)) before clients happened
-    → Steps event (reverse happened_before) history history before clients settled settled happened
+    → (seed : ℕ) → Steps seed event (reverse happened_before) history history before clients settled settled happened
 unfolding stepped
-offer_steps event happened_before history before clients settled happened number are is asks =
-    asks_steps event (reverse happened_before) history before clients are settled happened number (offer_effect number) (length happened_before + 1) (ap (λ n. n + 1) (sym (length-reverse happened_before)))
+offer_steps event happened_before history before clients settled happened number are is asks seed =
+    asks_steps seed event (reverse happened_before) history before clients are settled happened number (offer_effect number) (length happened_before + 1) (ap (λ n. n + 1) (sym (length-reverse happened_before)))
     (λ world. ap (λ (e : Event). stepped hashed e world) is) asks
 
 pub deliver_steps : (event : Event) (earlier : List Happened) (before history : List (Entry Content)) (clients : List Client) (settled : List Settlement) (happened : Happened) (number : ℕ)
-    → event ≡ Deliver number → Delivers earlier number before history happened → Steps event earlier before history clients clients settled settled happened
+    → event ≡ Deliver number → Delivers earlier number before history happened → (seed : ℕ) → Steps seed event earlier before history clients clients settled settled happened
 unfolding stepped AreKept
-deliver_steps event earlier before history clients settled happened number is delivers = record {
+deliver_steps event earlier before history clients settled happened number is delivers seed = record {
   own = delivers.own (length clients);
   kept = delivers.kept;
   counted = refl;
-  recorded = record_more before history earlier happened delivers.same delivers.kept.0;
-  steps = ap (λ (e : Event). stepped hashed e (world_with before (outcomes_of before earlier) clients settled)) is ∙ delivers.delivers clients settled;
+  recorded = record_more seed before history earlier happened delivers.same delivers.kept.0;
+  steps = ap (λ (e : Event). stepped hashed e (world_with seed before (outcomes_of before earlier) clients settled)) is ∙ delivers.delivers seed clients settled;
 }
 
 pub answer_steps : (event : Event) (earlier : List Happened) (history : List (Entry Content)) (before clients : List Client) (settled : List Settlement) (happened : Happened) (number : ℕ)
-    → AreKept history earlier → event ≡ Answer number → Receives history earlier number before clients happened → Steps event earlier history history before clients settled settled happened
+    → AreKept history earlier → event ≡ Answer number → Receives history earlier number before clients happened → (seed : ℕ) → Steps seed event earlier history history before clients settled settled happened
 unfolding stepped AreKept
-answer_steps event earlier history before clients settled happened number are is receives = record {
+answer_steps event earlier history before clients settled happened number are is receives seed = record {
   own = quiet_own (length clients) happened receives.quiet;
   kept = (quiet_kept history (outcomes_of history earlier) happened receives.quiet, are);
   counted = receives.counted;
-  recorded = record_more history history earlier happened refl (quiet_kept history (outcomes_of history earlier) happened receives.quiet);
-  steps = ap (λ (e : Event). stepped hashed e (world_with history (outcomes_of history earlier) before settled)) is ∙ receives.receives settled;
+  recorded = record_more seed history history earlier happened refl (quiet_kept history (outcomes_of history earlier) happened receives.quiet);
+  steps = ap (λ (e : Event). stepped hashed e (world_with seed history (outcomes_of history earlier) before settled)) is ∙ receives.receives seed settled;
 }
 
 -- of what an event that can be stepped is

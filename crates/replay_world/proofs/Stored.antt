@@ -13,8 +13,8 @@ use Rattle.sync_model.specs.declared.message.Request.{Request}
 use Rattle.sync_model.specs.History.{answer_to, history_with, committed, answers_to}
 use Rattle.sync_model.specs.Servers.{is_foreign, verdict_on, history_after, reply_to, history_served}
 use Rattle.sync_model.specs.Worlds.{STORE_BIRTHDAY, is_invalid_entry}
-use Rattle.loopback_server.specs.Messages.{told_answer, told_answers, told_verdict}
-use Rattle.loopback_server.specs.Messages.{entries_of as asked_of}
+use Rattle.replay_messages.specs.Replies.{told_answer, told_answers, told_verdict}
+use Rattle.replay_messages.specs.Replies.{entries_of as asked_of}
 use Rattle.replay_messages.specs.Forms.{form, call_formed, verdict_formed}
 use Rattle.replay_messages.specs.Messages.{reply_told}
 use Rattle.replay_world.specs.Copies.{entries_of, answers_of, is_success, stored_by}
@@ -53,50 +53,50 @@ stored_none all before entries rest answers same_rest dropped same = sym (append
   nil_from_drop (x ∷ xs) is = absurd (omega (arith, ap length is))
 
 -- an entry is stored where it is told so
-told_success : (entry : Entry Content) (answer : Answer) (history : List (Entry Content))
-    → reverse (cond (is_success (told_answer (form entry) answer).outcome) (entry ∷ []) []) ++ history ≡ history_with history entry answer
-told_success entry (Success version) history = refl
-told_success entry Conflict history = refl
-told_success entry Invalid history = refl
-told_success entry OverQuota history = refl
+told_success : (seed : ℕ) (entry : Entry Content) (answer : Answer) (history : List (Entry Content))
+    → reverse (cond (is_success (told_answer (form seed entry) answer).outcome) (entry ∷ []) []) ++ history ≡ history_with history entry answer
+told_success seed entry (Success version) history = refl
+told_success seed entry Conflict history = refl
+told_success seed entry Invalid history = refl
+told_success seed entry OverQuota history = refl
 
 -- the stored entries, the newest first, and the history before them
-committed_is : (history entries : List (Entry Content))
-    → reverse (stored_by entries (told_answers (map form entries) (answers_to is_invalid_entry history entries))) ++ history
+committed_is : (seed : ℕ) (history entries : List (Entry Content))
+    → reverse (stored_by entries (told_answers (map (form seed) entries) (answers_to is_invalid_entry history entries))) ++ history
     ≡ committed is_invalid_entry history entries
 unfolding stored_by told_answers answers_to committed
-committed_is history [] = refl
-committed_is history (entry ∷ entries) =
+committed_is seed history [] = refl
+committed_is seed history (entry ∷ entries) =
     let answer : Answer = answer_to is_invalid_entry history entry in
     let next : List (Entry Content) = history_with history entry answer in
-    let told : List EntryAnswer = told_answers (map form entries) (answers_to is_invalid_entry next entries) in
-    let kept : List (Entry Content) = cond (is_success (told_answer (form entry) answer).outcome) (entry ∷ []) [] in
+    let told : List EntryAnswer = told_answers (map (form seed) entries) (answers_to is_invalid_entry next entries) in
+    let kept : List (Entry Content) = cond (is_success (told_answer (form seed entry) answer).outcome) (entry ∷ []) [] in
     ap (λ (newer : List (Entry Content)). newer ++ history) (reverse-append kept (stored_by entries told))
     ∙ append_assoc (reverse (stored_by entries told)) (reverse kept) history
-    ∙ ap (λ (older : List (Entry Content)). reverse (stored_by entries told) ++ older) (told_success entry answer history)
-    ∙ committed_is next entries
+    ∙ ap (λ (older : List (Entry Content)). reverse (stored_by entries told) ++ older) (told_success seed entry answer history)
+    ∙ committed_is seed next entries
 
 -- what a call that is accepted stores
-call_stores : (history : List (Entry Content)) (call : Call Content)
-    → reverse (stored_by (entries_of call) (answers_of (told_verdict (asked_of (call_formed call)) (verdict_formed (verdict_on is_invalid_entry history call))))) ++ history
+call_stores : (seed : ℕ) (history : List (Entry Content)) (call : Call Content)
+    → reverse (stored_by (entries_of call) (answers_of (told_verdict (asked_of (call_formed seed call)) (verdict_formed seed (verdict_on is_invalid_entry history call))))) ++ history
     ≡ history_after is_invalid_entry history call
 unfolding stored_by
-call_stores history (Commit entries) = committed_is history entries
-call_stores history (Updates marks) = refl
+call_stores seed history (Commit entries) = committed_is seed history entries
+call_stores seed history (Updates marks) = refl
 
 -- what a request stores
-verdict_stores : (history : List (Entry Content)) (request : Request Content) (foreign : Bool) → is_foreign STORE_BIRTHDAY request.birthday ≡ foreign
-    → reverse (stored_by (entries_of request.call) (answers_of (reply_told request (reply_to is_invalid_entry STORE_BIRTHDAY history request)).reply)) ++ history
+verdict_stores : (seed : ℕ) (history : List (Entry Content)) (request : Request Content) (foreign : Bool) → is_foreign STORE_BIRTHDAY request.birthday ≡ foreign
+    → reverse (stored_by (entries_of request.call) (answers_of (reply_told seed request (reply_to is_invalid_entry STORE_BIRTHDAY history request)).reply)) ++ history
     ≡ history_served is_invalid_entry STORE_BIRTHDAY history request
 unfolding reply_told reply_to history_served
-verdict_stores history request true is = rw is (ap (λ (newer : List (Entry Content)). reverse newer ++ history) (stored_by-nil (entries_of request.call)))
-verdict_stores history request false is = rw is (call_stores history request.call)
+verdict_stores seed history request true is = rw is (ap (λ (newer : List (Entry Content)). reverse newer ++ history) (stored_by-nil (entries_of request.call)))
+verdict_stores seed history request false is = rw is (call_stores seed history request.call)
 
 -- the writes, the newest first, after the stored entries of a request joined them
-pub served_is : (writes written : List (Entry Content)) (request : Request Content)
-    → written ≡ writes ++ stored_by (entries_of request.call) (answers_of (reply_told request (reply_to is_invalid_entry STORE_BIRTHDAY (reverse writes) request)).reply)
+pub served_is : (seed : ℕ) (writes written : List (Entry Content)) (request : Request Content)
+    → written ≡ writes ++ stored_by (entries_of request.call) (answers_of (reply_told seed request (reply_to is_invalid_entry STORE_BIRTHDAY (reverse writes) request)).reply)
     → reverse written ≡ history_served is_invalid_entry STORE_BIRTHDAY (reverse writes) request
-served_is writes written request is =
+served_is seed writes written request is =
     ap reverse is
-    ∙ reverse-append writes (stored_by (entries_of request.call) (answers_of (reply_told request (reply_to is_invalid_entry STORE_BIRTHDAY (reverse writes) request)).reply))
-    ∙ verdict_stores (reverse writes) request (is_foreign STORE_BIRTHDAY request.birthday) refl
+    ∙ reverse-append writes (stored_by (entries_of request.call) (answers_of (reply_told seed request (reply_to is_invalid_entry STORE_BIRTHDAY (reverse writes) request)).reply))
+    ∙ verdict_stores seed (reverse writes) request (is_foreign STORE_BIRTHDAY request.birthday) refl

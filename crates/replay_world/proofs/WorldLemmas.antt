@@ -34,27 +34,27 @@ put_back items new len is_len same =
     ∙ take_all len new (omega (arith, is_len, same))
 
 -- the same parts are right
-pub still_right : (history next : List (Entry Content)) (clients clients_after : List Client) (happened happened_after : List Happened) (recorder : Record) → IsRight history clients happened recorder
-    → next ≡ history → clients_after ≡ clients → happened_after ≡ happened → IsRight next clients_after happened_after recorder
-still_right history next clients clients_after happened happened_after recorder is is_history is_clients is_happened = record {
+pub still_right : (seed : ℕ) (history next : List (Entry Content)) (clients clients_after : List Client) (happened happened_after : List Happened) (recorder : Record) → IsRight seed history clients happened recorder
+    → next ≡ history → clients_after ≡ clients → happened_after ≡ happened → IsRight seed next clients_after happened_after recorder
+still_right seed history next clients clients_after happened happened_after recorder is is_history is_clients is_happened = record {
   few = subst (λ (all : List Client). length all ≤ 8) (sym is_clients) is.few;
   own = own_still clients clients_after happened happened_after is_clients is_happened is.own;
   kept = subst (λ (all : List Happened). AreKept next (reverse all)) (sym is_happened)
       (subst (λ (past : List (Entry Content)). AreKept past (reverse happened)) (sym is_history) is.kept);
-  recorded = subst (λ (all : List Happened). HasRecorded recorder (wire_record (outcomes_of next (reverse all)))) (sym is_happened)
-      (subst (λ (past : List (Entry Content)). HasRecorded recorder (wire_record (outcomes_of past (reverse happened)))) (sym is_history) is.recorded);
+  recorded = subst (λ (all : List Happened). HasRecorded recorder (wire_record seed (outcomes_of next (reverse all)))) (sym is_happened)
+      (subst (λ (past : List (Entry Content)). HasRecorded recorder (wire_record seed (outcomes_of past (reverse happened)))) (sym is_history) is.recorded);
 }
 
 -- the parts after an event are right
-pub stepped_right : (history next : List (Entry Content)) (clients read_clients clients_after : List Client) (before read after : List Happened) (recorder recorder_after : Record)
+pub stepped_right : (seed : ℕ) (history next : List (Entry Content)) (clients read_clients clients_after : List Client) (before read after : List Happened) (recorder recorder_after : Record)
     (event : Event) (settled_before settled : List Settlement) (happened : Happened)
-    → IsRight history clients before recorder → read ≡ before → read_clients ≡ clients
-    → Steps event (reverse read) history next read_clients clients_after settled_before settled happened
+    → IsRight seed history clients before recorder → read ≡ before → read_clients ≡ clients
+    → Steps seed event (reverse read) history next read_clients clients_after settled_before settled happened
     → after ≡ before ++ happened ∷ []
     → ((so_far : List ℕ) → HasRecorded recorder so_far → HasRecorded recorder_after (so_far ++ sent happened))
-    → IsRight next clients_after after recorder_after
+    → IsRight seed next clients_after after recorder_after
 unfolding AreKept
-stepped_right history next clients read_clients clients_after before read after recorder recorder_after event settled_before settled happened is is_read is_clients steps is_after records =
+stepped_right seed history next clients read_clients clients_after before read after recorder recorder_after event settled_before settled happened is is_read is_clients steps is_after records =
     let newest : reverse after ≡ happened ∷ reverse before = ap reverse is_after ∙ reverse-append before (happened ∷ []) in
     let count : length clients_after ≡ length clients = steps.counted ∙ ap length is_clients in
     record {
@@ -64,35 +64,36 @@ stepped_right history next clients read_clients clients_after before read after 
       kept = subst (λ (all : List Happened). AreKept next all) (sym newest)
           (subst (λ (all : List Happened). AreKept next (happened ∷ reverse all)) is_read steps.kept);
       recorded = subst (λ bytes. HasRecorded recorder_after bytes)
-          (ap (λ (all : List Happened). wire_record (outcomes_of history (reverse all)) ++ sent happened) (sym is_read)
+          (ap (λ (all : List Happened). wire_record seed (outcomes_of history (reverse all)) ++ sent happened) (sym is_read)
           ∙ sym steps.recorded
-          ∙ ap (λ (all : List Happened). wire_record (outcomes_of next (happened ∷ reverse all))) is_read
-          ∙ ap (λ (all : List Happened). wire_record (outcomes_of next all)) (sym newest))
-          (records (wire_record (outcomes_of history (reverse before))) is.recorded);
+          ∙ ap (λ (all : List Happened). wire_record seed (outcomes_of next (happened ∷ reverse all))) is_read
+          ∙ ap (λ (all : List Happened). wire_record seed (outcomes_of next all)) (sym newest))
+          (records (wire_record seed (outcomes_of history (reverse before))) is.recorded);
     }
 
 -- the parts before any event are right
-pub opening_right : (history : List (Entry Content)) (clients : List Client) (happened : List Happened) (recorder : Record) (count : ℕ) → history ≡ [] → clients ≡ replicate count new_client → happened ≡ [] → count ≤ 8
-    → HasRecorded recorder [] → IsRight history clients happened recorder
+pub opening_right : (seed : ℕ) (history : List (Entry Content)) (clients : List Client) (happened : List Happened) (recorder : Record) (count : ℕ) → history ≡ [] → clients ≡ replicate count new_client → happened ≡ [] → count ≤ 8
+    → HasRecorded recorder [] → IsRight seed history clients happened recorder
 unfolding AreKept outcomes_of wire_record
-opening_right history clients happened recorder count is_history is_clients is_happened few recorded = record {
+opening_right seed history clients happened recorder count is_history is_clients is_happened few recorded = record {
   few = omega (arith, ap length is_clients, length-replicate count new_client, few);
   own = subst (λ (all : List Happened). AllByRecursion (IsOfClient (length clients)) (reverse all)) (sym is_happened) tt;
   kept = subst (λ (all : List Happened). AreKept history (reverse all)) (sym is_happened) tt;
-  recorded = subst (λ (all : List Happened). HasRecorded recorder (wire_record (outcomes_of history (reverse all)))) (sym is_happened) recorded;
+  recorded = subst (λ (all : List Happened). HasRecorded recorder (wire_record seed (outcomes_of history (reverse all)))) (sym is_happened) recorded;
 }
 
 -- the world before any event
-pub opening_is : (history : List (Entry Content)) (clients : List Client) (happened : List Happened) (settlements : List Settlement) (count : ℕ) (passes : List (List ℕ))
+pub opening_is : (seed : ℕ) (history : List (Entry Content)) (clients : List Client) (happened : List Happened) (settlements : List Settlement) (count : ℕ) (passes : List (List ℕ))
     → history ≡ [] → clients ≡ replicate count new_client → happened ≡ [] → settlements ≡ [] → passes ≡ []
-    → world_with history (outcomes_of history (reverse happened)) clients settlements ≡ opening count passes
+    → world_with seed history (outcomes_of history (reverse happened)) clients settlements ≡ opening count seed passes
 unfolding outcomes_of
-opening_is history clients happened settlements count passes is_history is_clients is_happened is_settled is_passes =
+opening_is seed history clients happened settlements count passes is_history is_clients is_happened is_settled is_passes =
     λ i. record {
       history = is_history i;
       outcomes = outcomes_of (is_history i) (reverse (is_happened i));
       clients = is_clients i;
       settlements = is_settled i;
+      seed = seed;
       passes = sym is_passes i;
     }
 

@@ -59,17 +59,17 @@ unfoldable pub kept_at : List Happened → ℕ → Option Happened
 kept_at [] event = None
 kept_at (happened ∷ earlier) event = if event == length earlier + 1 then Some happened else kept_at earlier event
 
--- the bytes are those of a client's request, which bytes can say
+-- the bytes are those of a client's request in a run of any seed, which bytes can say
 pub record IsRequest (client : ℕ) (request : Request Content) (bytes : List ℕ) : Type 0 where
   pub plain : IsPlainCall request.call
-  pub is_told : bytes ≡ to_bytes (request_told client request)
-  pub sayable : IsSayableRequest (request_told client request).request
+  pub is_told : (seed : ℕ) → bytes ≡ to_bytes (request_told seed client request)
+  pub sayable : (seed : ℕ) → IsSayableRequest (request_told seed client request).request
 
--- the bytes are those of a server's reply to a request, which bytes can say
+-- the bytes are those of a server's reply to a request in a run of any seed, which bytes can say
 pub record IsReply (request : Request Content) (reply : Reply Content) (bytes : List ℕ) : Type 0 where
   pub answers : IsReplyTo request.call reply.verdict
-  pub is_told : bytes ≡ from_bytes (reply_told request reply)
-  pub sayable : IsSayable (reply_told request reply)
+  pub is_told : (seed : ℕ) → bytes ≡ from_bytes (reply_told seed request reply)
+  pub sayable : (seed : ℕ) → IsSayable (reply_told seed request reply)
 
 -- the bytes are those of what the server said, when it had so many writes, to the request that an event made
 pub record IsDelivery (history : List (Entry Content)) (earlier : List EventOutcome) (event before : ℕ) (bytes : List ℕ) : Type 0 where

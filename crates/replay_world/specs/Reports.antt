@@ -23,7 +23,7 @@ use Rattle.replay_world.specs.declared.happened.Happened.TheVariants as kept
 
 -- the lines of a world, and at last the digest of all its messages
 unfoldable pub full_report : World → List ℕ
-full_report world = report hashed world ++ digest_line (sha256 (wire_record world.outcomes))
+full_report world = report hashed world ++ digest_line (sha256 (wire_record world.seed world.outcomes))
 
 -- a write of a history is based on this version
 abbrev pub is_base : List (Entry Content) → ℕ → Bool

@@ -1,5 +1,5 @@
 -- The server of a run, with its writes as the clients made them.
-use Rattle.std.specs.Prelude.{◌≡◌, List, map, reverse}
+use Rattle.std.specs.Prelude.{◌≡◌, ℕ, List, map, reverse}
 use Rattle.std.specs.List.{AllByRecursion}
 use Rattle.sync_model.specs.declared.message.Content.{Content}
 use Rattle.sync_model.specs.declared.message.Entry.{Entry}
@@ -12,9 +12,9 @@ use Rattle.replay_world.specs.declared.run_server.RunServer.TheInside.{Inside}
 abbrev pub history_of : Inside → List (Entry Content)
 history_of server = reverse server.writes.items
 
--- The server has the writes as they are sent; nothing seals them, and each is based on the one before it of its key.
+-- The server has the writes as they are sent in a run of any seed; nothing seals them, and each is based on the one before it of its key.
 pub record IsServer (server : Inside) : Type 0 where
   pub birthday : server.server.birthday ≡ STORE_BIRTHDAY
-  pub stored : server.server.history ≡ map form (history_of server)
+  pub stored : (seed : ℕ) → server.server.history ≡ map (form seed) (history_of server)
   pub plain : AllByRecursion IsPlain (history_of server)
   pub based : IsBased (history_of server)

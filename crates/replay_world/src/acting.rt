@@ -79,7 +79,7 @@ pub(crate) fn turn(
 /// A client takes what is to be sent of a type into its next commit.
 pub(crate) fn gather(clients: &mut [Client], number: u32, kind: Kind) -> Result<Happened, NoMemory>
     requires number { IsNumber (length clients.old) number }
-    ensures acts { IfOk result (ActsAlone number (gather_effect hashed kind) clients.old clients.new) }
+    ensures acts { IfOk result (ActsAlone number (gather_effect hashed number kind) clients.old clients.new) }
     ensures clients { OnErr result (clients.new ≡ clients.old) }
 {
     let outcome = clients[number as usize - 1].gather(kind)?;

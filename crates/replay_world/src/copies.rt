@@ -5,7 +5,7 @@ ghost use Rattle.replay_world.specs.Copies.{entries_of, answers_of, is_success, 
 use std::alloc::Global;
 use std::collections::VecDeque;
 use sync_messages::{EntryAnswer, Outcome, Reply};
-use sync_model::{Call, Content, Entry, Key};
+use sync_model::{Call, Content, Entry};
 use wire_fields::{NoMemory, Octets};
 
 fn copied_octets(octets: &Option<Octets>) -> Result<Option<Octets>, NoMemory>
@@ -17,20 +17,11 @@ fn copied_octets(octets: &Option<Octets>) -> Result<Option<Octets>, NoMemory>
     }
 }
 
-fn copied_key(key: &Key) -> Result<Key, NoMemory>
-    ensures { IfOk result (λ copy. copy ≡ key.now) }
-{
-    Ok(Key {
-        kind: key.kind,
-        hash: key.hash.copy()?,
-    })
-}
-
 fn copied_entry(entry: &Entry<Content>) -> Result<Entry<Content>, NoMemory>
     ensures { IfOk result (λ copy. copy ≡ entry.now) }
 {
     Ok(Entry {
-        key: copied_key(&entry.key)?,
+        key: entry.key,
         version: entry.version,
         content: Content {
             value: entry.content.value.copy()?,

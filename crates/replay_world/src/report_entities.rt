@@ -1,19 +1,15 @@
 //! The lines of a report that tell of the server.
 ghost use Rattle.std.specs.Prelude.{◌≡◌, ◌≤◌, ◌<◌, ◌-◌, ◌==◌, ◌||◌, ℕ, ◌++◌, [], false, count_by, length, reverse, slice_index_or, IfOk, OnOk};
-ghost use Rattle.std.specs.List.{AllByRecursion};
-ghost use Rattle.client_tags.specs.Hashes.{IsHash};
 ghost use Rattle.sync_model.specs.History.{IsBased};
 ghost use Rattle.sync_model.specs.Report.{pass_number, server_line, entity_lines};
 ghost use Rattle.run_setting.specs.Hashed.{hashed};
-ghost use Rattle.replay_messages.specs.Forms.{IsPlain};
 ghost use Rattle.replay_world.specs.Reports.{HasBases, line_unless, is_first};
 
 use crate::run_server::RunServer;
-use client_tags::TagHash;
 use report_lines::{write_entity_line, write_server_line};
 use std::alloc::Global;
 use sync_model::{Content, Entry};
-use wire_fields::{NoMemory, Octets};
+use wire_fields::NoMemory;
 
 fn is_first(write: &Entry<Content>) -> bool
     ensures { result ≡ is_first write.now }
@@ -60,23 +56,12 @@ fn bases_of(alloc: Global, writes: &[Entry<Content>]) -> Result<Vec<bool>, NoMem
     Ok(bases)
 }
 
-// The bytes of a hash as a hash.
-fn hash_in(bytes: &Octets) -> TagHash
-    requires { IsHash bytes.now }
-    ensures { result.bytes ≡ bytes.now }
-{
-    let mut hash = [0; 20];
-    hash.copy_from_slice(bytes.as_slice());
-    TagHash { bytes: hash }
-}
-
 fn write_unless(
     out: &mut Vec<u8>,
     is_based: bool,
     version: u64,
     write: &Entry<Content>,
 ) -> Result<(), NoMemory>
-    requires { IsPlain write.now }
     ensures { OnOk result (out.new.items ≡ out.old.items ++ line_unless is_based version write.now) }
 {
     if is_based {
@@ -86,7 +71,7 @@ fn write_unless(
         out,
         version,
         write.key.kind,
-        &hash_in(&write.key.hash),
+        &write.key.hash,
         &write.content,
     )
 }
@@ -102,7 +87,6 @@ fn is_base(bases: &[bool], place: usize) -> bool
 // The last writes of their keys, by ascending version.
 fn write_last(out: &mut Vec<u8>, writes: &[Entry<Content>], bases: &[bool]) -> Result<(), NoMemory>
     requires based { IsBased (reverse writes.now) }
-    requires plain { AllByRecursion IsPlain (reverse writes.now) }
     requires bases { HasBases bases.now (reverse writes.now) }
     requires long { length bases.now ≡ length writes.now }
     ensures { OnOk result (out.new.items ≡ out.old.items ++ entity_lines hashed (pass_number hashed []) (reverse writes.now) (reverse writes.now)) }

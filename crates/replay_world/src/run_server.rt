@@ -6,7 +6,7 @@ ghost use Rattle.sync_model.specs.Servers.{history_served};
 ghost use Rattle.sync_model.specs.Worlds.{STORE_BIRTHDAY, is_invalid_entry};
 ghost use Rattle.sync_messages.specs.Laws.{HasCanonicalRequest};
 ghost use Rattle.sync_messages.specs.Spellings.{from_bytes};
-ghost use Rattle.loopback_server.specs.Messages.{reply_for, history_for};
+ghost use Rattle.replay_messages.specs.Replies.{reply_for, history_for};
 ghost use Rattle.replay_messages.specs.Forms.{IsPlain};
 ghost use Rattle.replay_world.specs.Outcomes.{served_reply, IsRequest, IsReply};
 

@@ -1,5 +1,5 @@
 //! What each event makes of the parts of a world.
-ghost use Rattle.std.specs.Prelude.{◌≡◌, ◌+◌, ◌-◌, ◌^◌, ◌<◌, length, reverse, IfOk, OnErr};
+ghost use Rattle.std.specs.Prelude.{◌≡◌, ℕ, ◌+◌, ◌-◌, ◌^◌, ◌<◌, length, reverse, IfOk, OnErr};
 ghost use Rattle.std.specs.List.{AllByRecursion};
 ghost use Rattle.replay_world.specs.Events.{CanStep};
 ghost use Rattle.replay_world.specs.Outcomes.{AreKept, IsOfClient};
@@ -28,7 +28,8 @@ pub(crate) fn happen(
     requires room { length happened.now < 2 ^ 32 - 1 }
     requires kept { AreKept server.old (reverse happened.now) }
     requires own { AllByRecursion (IsOfClient (length clients.old)) (reverse happened.now) }
-    ensures steps { IfOk result (Steps event.now (reverse happened.now) server.old server.new clients.old clients.new settlements.old.items settlements.new.items) }
+    ensures steps { IfOk result (λ next. (seed : ℕ) → Steps seed event.now (reverse happened.now) server.old server.new
+        clients.old clients.new settlements.old.items settlements.new.items next) }
     ensures server { OnErr result (server.new ≡ server.old) }
     ensures clients { OnErr result (clients.new ≡ clients.old) }
     ensures settlements { OnErr result (settlements.new.items ≡ settlements.old.items) }

@@ -40,6 +40,7 @@ pub enum Stepped {
 #[derive(Drop)]
 pub struct World {
     pub(crate) alloc: Global,
+    pub(crate) seed: u64,
     pub(crate) server: RunServer,
     pub(crate) happened: Vec<Happened>,
     pub(crate) clients: Vec<Client>,
@@ -97,10 +98,11 @@ impl World {
     pub fn new(alloc: Global, schedule: &Schedule) -> Result<World, NoMemory>
         requires clients { schedule.now.clients ≤ 8 }
         requires no_passes { schedule.now.passes ≡ [] }
-        ensures { IfOk result (λ world. world ≡ opening schedule.now.clients schedule.now.passes) }
+        ensures { IfOk result (λ world. world ≡ opening schedule.now.clients schedule.now.seed schedule.now.passes) }
     {
         Ok(World {
             alloc,
+            seed: schedule.seed,
             server: RunServer::new(alloc)?,
             happened: Vec::new(alloc),
             clients: new_clients(alloc, schedule.clients)?,

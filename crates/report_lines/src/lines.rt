@@ -86,7 +86,7 @@ pub fn write_entity_line(
     hash: &TagHash,
     content: &Content,
 ) -> Result<(), NoMemory>
-    ensures ok { (write : Entry AnyContent) → write.key ≡ record { kind = kind; hash = hash.now.bytes }
+    ensures ok { (write : Entry AnyContent) → write.key ≡ record { kind = kind; hash = hash.now }
         → write.content ≡ content.now
         → OnOk result (out.new.items ≡ out.old.items ++ entity_line hashed (pass_number hashed []) version write) }
     ensures err { OnErr result (Continues out.old.items out.new.items) }
@@ -187,7 +187,7 @@ pub fn write_value_line(
     own: &Value,
 ) -> Result<(), NoMemory>
     ensures ok { OnOk result (out.new.items ≡
-        out.old.items ++ value_line_text hashed (pass_number hashed []) number kind hash.now.bytes known own.now) }
+        out.old.items ++ value_line_text hashed (pass_number hashed []) number kind hash.now known own.now) }
     ensures err { OnErr result (Continues out.old.items out.new.items) }
 {
     write_owner(out, b"value ", number, kind)?;

@@ -68,12 +68,12 @@ fn preference(alloc: Global, extra: &[u8]) -> Result<Value, NoMemory> {
 }
 
 // The hash of the preference `a`: SHA-1 over b2 b4 12 00 and `a`.
-const HASH: TagHash = TagHash {
-    bytes: [
+fn hash_of_a() -> TagHash {
+    TagHash::from_bytes([
         0x2b, 0x1d, 0xa3, 0x3b, 0xbc, 0x55, 0xab, 0xcf, 0xb7, 0x94, 0x96, 0x5e, 0x8a, 0xf4, 0x4f,
         0x38, 0xd8, 0x68, 0xec, 0x46,
-    ],
-};
+    ])
+}
 
 #[test]
 fn lines_of_values(rt: HostRuntime) -> Result<(), Fail> {
@@ -84,8 +84,15 @@ fn lines_of_values(rt: HostRuntime) -> Result<(), Fail> {
         draw: None,
     };
     let mut out = Vec::new(rt.alloc());
-    write_entity_line(&mut out, 1, Kind::Preference, &HASH, &content)?;
-    write_value_line(&mut out, 1, Kind::Preference, &HASH, 1, &content.value)?;
+    write_entity_line(&mut out, 1, Kind::Preference, &hash_of_a(), &content)?;
+    write_value_line(
+        &mut out,
+        1,
+        Kind::Preference,
+        &hash_of_a(),
+        1,
+        &content.value,
+    )?;
     assert_eq!(rt;
         out.as_slice(),
         b"entity 1 preference Kx2jO7xVq8+3lJZeivRPONho7EY= plain a 1\n\
@@ -99,7 +106,7 @@ fn lines_of_values(rt: HostRuntime) -> Result<(), Fail> {
 fn the_fields_of_a_newer_client_end_a_value(rt: HostRuntime) -> Result<(), Fail> {
     let value = preference(rt.alloc(), b"\x18\x07")?;
     let mut out = Vec::new(rt.alloc());
-    write_value_line(&mut out, 2, Kind::Preference, &HASH, 0, &value)?;
+    write_value_line(&mut out, 2, Kind::Preference, &hash_of_a(), 0, &value)?;
     assert_eq!(rt;
         out.as_slice(),
         b"value 2 preference Kx2jO7xVq8+3lJZeivRPONho7EY= known 0 a 1 + %18%07\n".as_slice()

@@ -6,7 +6,6 @@ use Rattle.std.proofs.Math.Facts.{Fits-of_z}
 use Rattle.std.proofs.lemmas.Int.{to_z-of_z}
 use Rattle.std.proofs.lemmas.List.{append-nil}
 use Rattle.wire_format.specs.Spellings.{bytes_field}
-use Rattle.client_tags.specs.declared.hash.TagHash.{TagHash}
 use Rattle.client_tags.specs.Hashes.{hash_text}
 use Rattle.client_tags.proofs.HashTexts.{bytes_of_text}
 use Rattle.message_fields.specs.declared.field.Part.{Part}
@@ -45,9 +44,9 @@ specifics_texts None = []
 specifics_texts (Some specifics) = specifics_bytes specifics ∷ []
 
 -- the text of a hash, if there is one
-abbrev text_of_hash : Option TagHash → Option (List ℕ)
+abbrev text_of_hash : Option (List ℕ) → Option (List ℕ)
 text_of_hash None = None
-text_of_hash (Some hash) = Some (hash_text hash.bytes)
+text_of_hash (Some hash) = Some (hash_text hash)
 
 -- the fields of an entity, as they are written
 abbrev id_run : Entity → Run
@@ -76,9 +75,9 @@ specifics_are : (specifics : Option Specifics) → specifics_if_some specifics �
 specifics_are None = refl
 specifics_are (Some specifics) = sym (append-nil (bytes_field 21 (specifics_bytes specifics)))
 
-hash_are : (hash : Option TagHash) → hash_if_some hash ≡ run_bytes (contents 23 (option_to_list (text_of_hash hash)))
+hash_are : (hash : Option (List ℕ)) → hash_if_some hash ≡ run_bytes (contents 23 (option_to_list (text_of_hash hash)))
 hash_are None = refl
-hash_are (Some hash) = sym (append-nil (bytes_field 23 (hash_text hash.bytes)))
+hash_are (Some hash) = sym (append-nil (bytes_field 23 (hash_text hash)))
 
 entity_is_written : (entity : Entity) → entity_bytes entity ≡ written (all_fields (entity_runs entity))
 entity_is_written entity =
@@ -107,11 +106,10 @@ flag_said : (deleted : Bool) → deleted ≡ not (flag_number deleted == 0)
 flag_said false = refl
 flag_said true = refl
 
-hash_said : (hash : Option TagHash) → IsHashIfSome hash → hash ≡ hash_in (text_of_hash hash)
+hash_said : (hash : Option (List ℕ)) → IsHashIfSome hash → hash ≡ hash_in (text_of_hash hash)
 hash_said None is = refl
 hash_said (Some hash) is =
-    ap (λ found. elim found as (λ bytes. Option TagHash) [ None ↦ None | Some bytes ↦ Some (record { bytes = bytes }) ])
-    (bytes_of_text (hash_text hash.bytes) hash.bytes (decode_of-hash_text hash.bytes is) is.has_20)
+    bytes_of_text (hash_text hash) hash (decode_of-hash_text hash is) is.has_20
 
 -- specifics that are read of some parts, if there are any
 record AreInside (input : List ℕ) (parts : List Part) (specifics : Option Specifics) : Type 0 where

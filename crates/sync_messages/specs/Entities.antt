@@ -2,8 +2,7 @@
 use Rattle.std.specs.Prelude.{◌≡◌, ℕ, not, ◌==◌, List, [], ◌∷◌, map, Option, Some, None, Result}
 use Rattle.std.specs.Int.{w64, cast_signed}
 use Rattle.std.specs.List.{AllZip}
-use Rattle.client_tags.specs.declared.hash.TagHash.{TagHash}
-use Rattle.client_tags.specs.Hashes.{hash_of_text}
+use Rattle.client_tags.specs.Hashes.{hash_bytes_of}
 use Rattle.message_fields.specs.declared.field.Known.{Known}
 use Rattle.message_fields.specs.declared.field.Part.{Part}
 use Rattle.message_fields.specs.declared.fault.MessageFault.{MessageFault}
@@ -44,9 +43,9 @@ abbrev pub entities_fault : List EntityFields → Option MessageFault
 entities_fault entities = first_fault (map entity_fault entities)
 
 -- the hash that a field has as its text; none where it is not there or is no such text
-abbrev pub hash_in : Option (List ℕ) → Option TagHash
+abbrev pub hash_in : Option (List ℕ) → Option (List ℕ)
 hash_in None = None
-hash_in (Some text) = hash_of_text text
+hash_in (Some text) = hash_bytes_of text
 
 -- what an entity says
 abbrev pub entity_of : List ℕ → EntityFields → Entity

@@ -2,7 +2,6 @@
 use Rattle.std.specs.Prelude.{ℕ, ◌^◌, ◌<◌, ◌≤◌, FitsSigned, List, Option, Some, None, Ok}
 use Rattle.std.specs.Int.{w64}
 use Rattle.std.specs.List.{AllByRecursion}
-use Rattle.client_tags.specs.declared.hash.TagHash.{TagHash}
 use Rattle.client_tags.specs.Hashes.{IsHash}
 use Rattle.sync_specifics.specs.Extras.{HasCanonicalExtraIfSome}
 use Rattle.sync_specifics.specs.Laws.{SayOneThing, FitMemory}
@@ -33,9 +32,9 @@ abbrev pub SayOneReply : Type 0
 SayOneReply = SayOneThing SaysFrom
 
 -- a hash, if there is one, has twenty bytes
-abbrev pub IsHashIfSome : Option TagHash → Type 0
+abbrev pub IsHashIfSome : Option (List ℕ) → Type 0
 IsHashIfSome None = Unit {0}
-IsHashIfSome (Some hash) = IsHash hash.bytes
+IsHashIfSome (Some hash) = IsHash hash
 
 -- an entity's version fits its type, and its hash has twenty bytes
 pub record FitsTypes (entity : Entity) : Type 0 where

@@ -3,7 +3,6 @@ use Rattle.std.specs.Prelude.{ℕ, Bool, true, false, List, [], ◌++◌, Option
 use Rattle.std.specs.Int.{w64, cast_unsigned}
 use Rattle.std.specs.List.{flat_map}
 use Rattle.wire_format.specs.Spellings.{varint_field, bytes_field, group_field}
-use Rattle.client_tags.specs.declared.hash.TagHash.{TagHash}
 use Rattle.client_tags.specs.Hashes.{hash_text}
 use Rattle.client_tags.specs.Kinds.{kind_number}
 use Rattle.progress_marker.specs.Tokens.{token_of}
@@ -39,9 +38,9 @@ specifics_if_some None = []
 specifics_if_some (Some specifics) = bytes_field 21 (specifics_bytes specifics)
 
 -- the field of an entity's hash, if it has one
-abbrev pub hash_if_some : Option TagHash → List ℕ
+abbrev pub hash_if_some : Option (List ℕ) → List ℕ
 hash_if_some None = []
-hash_if_some (Some hash) = bytes_field 23 (hash_text hash.bytes)
+hash_if_some (Some hash) = bytes_field 23 (hash_text hash)
 
 -- the bytes of an entity
 abbrev pub entity_bytes : Entity → List ℕ

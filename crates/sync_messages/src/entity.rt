@@ -1,6 +1,6 @@
 //! Reading entities.
 ghost use Rattle.std.specs.Prelude.{◌≡◌, ◌≤◌, length, IfOk};
-ghost use Rattle.client_tags.specs.Hashes.{hash_of_text};
+ghost use Rattle.client_tags.specs.Hashes.{hash_bytes_of};
 ghost use Rattle.message_fields.specs.Fields.{IsPartOf, ArePartsOf};
 ghost use Rattle.message_fields.specs.Lookups.{AreWithin, bytes_in_field};
 ghost use Rattle.message_fields.specs.Faults.{Answered};

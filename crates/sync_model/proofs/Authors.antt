@@ -245,10 +245,10 @@ run_authors setting world (event ∷ events) before = run_authors setting (stepp
   authors = stepped_authors setting event world before.deliveries before.authors;
 }
 
-opening_authors : (clients : ℕ) (passes : List (List ℕ)) → HasAuthors (opening clients passes)
+opening_authors : (clients seed : ℕ) (passes : List (List ℕ)) → HasAuthors (opening clients seed passes)
 unfolding outcome_at
-opening_authors clients passes = record {
-  deliveries = opening-DeliveriesAreTrue clients passes;
+opening_authors clients seed passes = record {
+  deliveries = opening-DeliveriesAreTrue clients seed passes;
   authors = record {
     written = λ version some within. absurd (omega (arith, some, within));
     alone = λ version one request place two other entry first second. absurd first;
@@ -257,7 +257,7 @@ opening_authors clients passes = record {
 
 world_of_authors : (setting : Setting) (schedule : Schedule) → HasAuthors (world_of setting schedule)
 world_of_authors setting schedule =
-    run_authors setting (opening schedule.clients schedule.passes) schedule.events (opening_authors schedule.clients schedule.passes)
+    run_authors setting (opening schedule.clients schedule.seed schedule.passes) schedule.events (opening_authors schedule.clients schedule.seed schedule.passes)
 
 -- an entry of a request is one that an event sent
 entry_of : (world : World) (request place : ℕ) (write : Entry Content) (outcome : EventOutcome) → outcome_at world.outcomes request ≡ outcome

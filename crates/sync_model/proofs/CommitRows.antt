@@ -57,7 +57,7 @@ named = set 1 "a" "1" ∷ Gather 1 Preference ∷ Offer 1 ∷ Deliver 3 ∷ Deli
 -- the same under the setting that shows names
 abbrev NamedRun : Type 0
 NamedRun =
-    report names (run names (opening 1 []) named)
+    report names (run names (opening 1 0 []) named)
     ≡ text_of ("events 8 void 0" ∷ "server version 1 keys 1" ∷ "entity 1 preference a plain a 1" ∷ "client 1 behind"
     ∷ "side 1 nigori mark 0 due 0 reseal 0 pending 0 mailbox 0"
     ∷ "side 1 preference mark 0 due 0 reseal 0 pending 0 mailbox 0"

@@ -136,9 +136,9 @@ run-DeliveriesAreTrue setting world (event ∷ events) before =
     run-DeliveriesAreTrue setting (stepped setting event world) events (stepped-DeliveriesAreTrue setting event world before)
 
 -- before any event nothing was delivered
-pub opening-DeliveriesAreTrue : (clients : ℕ) (passes : List (List ℕ)) → DeliveriesAreTrue (opening clients passes)
+pub opening-DeliveriesAreTrue : (clients seed : ℕ) (passes : List (List ℕ)) → DeliveriesAreTrue (opening clients seed passes)
 unfolding outcome_at
-opening-DeliveriesAreTrue clients passes = record {
+opening-DeliveriesAreTrue clients seed passes = record {
   based = tt;
   says_true = λ delivery request place version stores. absurd stores;
 }
@@ -154,8 +154,8 @@ one_write world true_of request place first second one other =
 -- each entry of each request is the author of at most one write
 pub world_of-EveryEntryWritesOnce : EveryEntryWritesOnce
 world_of-EveryEntryWritesOnce setting schedule request place first second one other =
-    let world = run setting (opening schedule.clients schedule.passes) schedule.events
-    in let true_of = run-DeliveriesAreTrue setting (opening schedule.clients schedule.passes) schedule.events
-    (opening-DeliveriesAreTrue schedule.clients schedule.passes)
+    let world = run setting (opening schedule.clients schedule.seed schedule.passes) schedule.events
+    in let true_of = run-DeliveriesAreTrue setting (opening schedule.clients schedule.seed schedule.passes) schedule.events
+    (opening-DeliveriesAreTrue schedule.clients schedule.seed schedule.passes)
     in one_write world true_of request place first second
     (true_of.says_true one.0 request place first one.1) (true_of.says_true other.0 request place second other.1)

@@ -67,7 +67,7 @@ run_later history outcomes setting world (event ∷ events) later =
 -- what is so of deliveries in the world before some events
 before_deliveries : (setting : Setting) (schedule : Schedule) (before : List Event) → DeliveriesAreTrue (world_before setting schedule before)
 before_deliveries setting schedule before =
-    run-DeliveriesAreTrue setting (opening schedule.clients schedule.passes) before (opening-DeliveriesAreTrue schedule.clients schedule.passes)
+    run-DeliveriesAreTrue setting (opening schedule.clients schedule.seed schedule.passes) before (opening-DeliveriesAreTrue schedule.clients schedule.seed schedule.passes)
 
 -- an entry of a request of a client, which is the write of a version
 pub record IsSentEntry (world : World) (client version : ℕ) : Type 0 where

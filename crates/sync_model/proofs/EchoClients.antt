@@ -25,7 +25,7 @@ use Rattle.sync_model.specs.Offers.{offers_of}
 use Rattle.sync_model.specs.Sides.{States, Side, state_at, side_edited, side_offered, after_offers, mailed}
 use Rattle.sync_model.specs.Clients.{Client, Effect, side_of, with_side, restarted, plain_effect, wanted_name, opens, batch_mailed}
 use Rattle.sync_model.specs.Changes.{own_at, edit_hash, edit_refusal, edit_taken, edit_effect, change_effect, cut_short, cut_effect, crash_effect, pass_value, set_pass_refusal, set_pass_effect, give_pass_refusal, give_pass_effect}
-use Rattle.sync_model.specs.Sending.{MAX_ENTRIES, lock_for, drawn_after, sealed, drawn_for, lacks_own_lock, is_held_back, asked_offers, gathered, noting, gathering, is_gather_void, gather_effect, ask_of, is_busy, ask_effect, commit_of, offer_effect, lose_effect}
+use Rattle.sync_model.specs.Sending.{Draws, drawing, MAX_ENTRIES, lock_for, drawn_after, sealed, drawn_for, lacks_own_lock, is_held_back, asked_offers, gathered, noting, gathering, is_gather_void, gather_effect, ask_of, is_busy, ask_effect, commit_of, offer_effect, lose_effect}
 use Rattle.sync_model.specs.Receiving.{posted, post_effect_at, post_effect, turn_effect_at, turn_effect, told, is_other_store, is_fit, answer_effect}
 use Rattle.sync_model.specs.Outcomes.{entries_in}
 use Rattle.sync_model.specs.Facts.{key_of}
@@ -233,14 +233,14 @@ with_bag-offers Was number author setting edit client bag numbered =
     }
 
 pub set_pass_effect-offers : (Was : Offerings) (number author : ℕ) (setting : Setting) (pass : List ℕ) (client : Client) → AreSidesNumbered client
-    → NoneOffered Was number client (set_pass_effect setting author pass client)
+    → NoneOffered Was number client (set_pass_effect setting setting.pass_kind author pass client)
 unfolding set_pass_effect
-set_pass_effect-offers Was number author setting pass client numbered = by (is_some (set_pass_refusal setting pass client))
+set_pass_effect-offers Was number author setting pass client numbered = by (is_some (set_pass_refusal setting setting.pass_kind pass client))
   where
-    by : (refused : Bool) → NoneOffered Was number client (cond refused None (Some (edit_taken setting author (SetNigori (pass_value setting client.bag pass))
+    by : (refused : Bool) → NoneOffered Was number client (cond refused None (Some (edit_taken setting author (SetNigori (pass_value setting setting.pass_kind client.bag pass))
         (record client { bag = with_key setting client.bag (setting.pass_key pass) }))))
     by true = tt
-    by false = with_bag-offers Was number author setting (SetNigori (pass_value setting client.bag pass)) client
+    by false = with_bag-offers Was number author setting (SetNigori (pass_value setting setting.pass_kind client.bag pass)) client
         (with_key setting client.bag (setting.pass_key pass)) numbered
 
 pub give_pass_effect-offers : (Was : Offerings) (number : ℕ) (setting : Setting) (pass : List ℕ) (client : Client)
@@ -362,12 +362,12 @@ answer_effect-offers Was number request reply client = by (is_other_store client
     by false = record { sides = told_sides Was request reply client; held = inl refl; sent = done_sent number client.held }
 
 -- offers as entries
-sealed_kept : (Was : Offerings) (client : Client) (kind : Kind) (name : Option (List ℕ)) (drawn : ℕ) (offers : List Offer)
-    → AllByRecursion (IsKeptIn Was kind (side_of client kind).states) offers → AllByRecursion (IsEntryKept Was client) (sealed kind name drawn offers)
+sealed_kept : (Was : Offerings) (client : Client) (draws : Draws) (kind : Kind) (name : Option (List ℕ)) (drawn : ℕ) (offers : List Offer)
+    → AllByRecursion (IsKeptIn Was kind (side_of client kind).states) offers → AllByRecursion (IsEntryKept Was client) (sealed draws kind name drawn offers)
 unfolding sealed
-sealed_kept Was client kind name drawn [] all = tt
-sealed_kept Was client kind name drawn (offer ∷ offers) all =
-    (all.0, sealed_kept Was client kind name (drawn_after (lock_for kind name offer.value) drawn) offers all.1)
+sealed_kept Was client draws kind name drawn [] all = tt
+sealed_kept Was client draws kind name drawn (offer ∷ offers) all =
+    (all.0, sealed_kept Was client draws kind name (drawn_after (lock_for kind name offer.value) drawn) offers all.1)
 
 -- some offers, or none
 all_or_none : (Is : Offer → Type 0) (none : Bool) (offers : List Offer) → AllByRecursion Is offers → AllByRecursion Is (cond none [] offers)
@@ -391,17 +391,17 @@ holding_side client held drawn Preference = refl
 holding_side client held drawn Password = refl
 
 -- a side notes some offers, and some of them are held
-noting_kept : (Was : Offerings) (number : ℕ) (client : Client) (kind : Kind) (name : Option (List ℕ)) (lacks : Bool) (drawn : ℕ) (offers : List Offer)
+noting_kept : (Was : Offerings) (number : ℕ) (client : Client) (draws : Draws) (kind : Kind) (name : Option (List ℕ)) (lacks : Bool) (drawn : ℕ) (offers : List Offer)
     → IsHolding Was client → AllByRecursion (IsOfferAt (side_of client kind).states) offers → AllByRecursion (WasMade Was kind) offers
     → IsEffectKept Was number client (plain_effect (noting kind offers
-    (record client { held = client.held ++ sealed kind name client.drawn (cond lacks [] offers); drawn = drawn })) Done)
-noting_kept Was number client kind name lacks drawn offers kept at was = record {
+    (record client { held = client.held ++ sealed draws kind name client.drawn (cond lacks [] offers); drawn = drawn })) Done)
+noting_kept Was number client draws kind name lacks drawn offers kept at was = record {
   sides = λ other. (steps other).0;
   moves = λ other. (steps other).1;
   held = subst (λ (held : List (Entry Content)). AllByRecursion (IsEntryKept Was new) held) (sym (with_side-rest holder kind noted).0)
-      (all_append (IsEntryKept Was new) client.held (sealed kind name client.drawn (cond lacks [] offers))
+      (all_append (IsEntryKept Was new) client.held (sealed draws kind name client.drawn (cond lacks [] offers))
       (entries_move Was client new (λ other. (steps other).1) client.held kept.held)
-      (sealed_kept Was new kind name client.drawn (cond lacks [] offers) (all_or_none (IsKeptIn Was kind (side_of new kind).states) lacks offers
+      (sealed_kept Was new draws kind name client.drawn (cond lacks [] offers) (all_or_none (IsKeptIn Was kind (side_of new kind).states) lacks offers
       (subst (λ (side : Side). AllByRecursion (IsKeptIn Was kind side.states) offers) (sym (side_of-with_side holder kind noted))
       (subst (λ (side : Side). AllByRecursion (IsKeptIn Was kind (after_offers side.states offers)) offers) (sym same)
       (offers_keep Was kind (side_of client kind).states offers at was (kept.sides kind)).2)))));
@@ -409,16 +409,16 @@ noting_kept Was number client kind name lacks drawn offers kept at was = record 
 }
   where
     holder : Client
-    holder = record client { held = client.held ++ sealed kind name client.drawn (cond lacks [] offers); drawn = drawn }
+    holder = record client { held = client.held ++ sealed draws kind name client.drawn (cond lacks [] offers); drawn = drawn }
 
-    same : side_of (record client { held = client.held ++ sealed kind name client.drawn (cond lacks [] offers); drawn = drawn }) kind ≡ side_of client kind
-    same = holding_side client (client.held ++ sealed kind name client.drawn (cond lacks [] offers)) drawn kind
+    same : side_of (record client { held = client.held ++ sealed draws kind name client.drawn (cond lacks [] offers); drawn = drawn }) kind ≡ side_of client kind
+    same = holding_side client (client.held ++ sealed draws kind name client.drawn (cond lacks [] offers)) drawn kind
 
     noted : Side
-    noted = side_offered (side_of (record client { held = client.held ++ sealed kind name client.drawn (cond lacks [] offers); drawn = drawn }) kind) offers
+    noted = side_offered (side_of (record client { held = client.held ++ sealed draws kind name client.drawn (cond lacks [] offers); drawn = drawn }) kind) offers
 
     new : Client
-    new = noting kind offers (record client { held = client.held ++ sealed kind name client.drawn (cond lacks [] offers); drawn = drawn })
+    new = noting kind offers (record client { held = client.held ++ sealed draws kind name client.drawn (cond lacks [] offers); drawn = drawn })
 
     -- what becomes of each side
     steps : (other : Kind) → AreStatesKept Was other (side_of new other).states
@@ -431,7 +431,7 @@ noting_kept Was number client kind name lacks drawn offers kept at was = record 
           (offers_keep Was kind (side_of client kind).states offers at was (kept.sides kind)).1,
         ))
         (λ other. subst (λ (side : Side). AreStatesKept Was other side.states × MovesOffers Was other (side_of client other).states side.states)
-        (sym (holding_side client (client.held ++ sealed kind name client.drawn (cond lacks [] offers)) drawn other))
+        (sym (holding_side client (client.held ++ sealed draws kind name client.drawn (cond lacks [] offers)) drawn other))
         (kept.sides other, λ hash version edit value is. is))
 
 -- what an effect keeps, if there is one
@@ -444,28 +444,28 @@ none_kept Was number client None kept is = tt
 none_kept Was number client (Some effect) kept is = nothing_kept Was number client effect kept is
 
 -- a gather, where what it asks for was offered
-gathering_kept : (Was : Offerings) (number : ℕ) (setting : Setting) (kind : Kind) (client : Client) (pending : Option Batch)
+gathering_kept : (Was : Offerings) (number author : ℕ) (setting : Setting) (kind : Kind) (client : Client) (pending : Option Batch)
     → AreSidesNumbered client → (pending ≡ None → AllByRecursion (WasMade Was kind) (asked_offers setting kind client)) → IsHolding Was client
-    → IsEffectKept Was number client (plain_effect (gathering setting kind client pending) Done)
-gathering_kept Was number setting kind client (Some batch) numbered was kept = by (opens setting client.bag batch)
+    → IsEffectKept Was number client (plain_effect (gathering setting author kind client pending) Done)
+gathering_kept Was number author setting kind client (Some batch) numbered was kept = by (opens setting client.bag batch)
   where
     by : (opened : Bool) → IsEffectKept Was number client (plain_effect (cond opened (batch_mailed setting client kind (side_of client kind) batch) client) Done)
     by true = nothing_kept Was number client (plain_effect (batch_mailed setting client kind (side_of client kind) batch) Done) kept
         (batch_mailed-offers Was number setting client kind (side_of client kind) batch refl)
     by false = nothing_kept Was number client (plain_effect client Done) kept
         record { sides = λ other. same_states Was other (side_of client other).states; held = inl refl; sent = done_sent number client.held }
-gathering_kept Was number setting kind client None numbered was kept =
-    noting_kept Was number client kind (wanted_name setting client kind) (lacks_own_lock setting kind client.bag (asked_offers setting kind client))
+gathering_kept Was number author setting kind client None numbered was kept =
+    noting_kept Was number client (drawing setting author client) kind (wanted_name setting client kind) (lacks_own_lock setting kind client.bag (asked_offers setting kind client))
     (drawn_for kind (wanted_name setting client kind) client.drawn (gathered setting kind client)) (asked_offers setting kind client) kept
     (asked_at setting kind client (kept.sides kind).in_order numbered) (was refl)
 
-pub gather_effect-kept : (Was : Offerings) (number : ℕ) (setting : Setting) (kind : Kind) (client : Client) → AreSidesNumbered client
+pub gather_effect-kept : (Was : Offerings) (number author : ℕ) (setting : Setting) (kind : Kind) (client : Client) → AreSidesNumbered client
     → (is_gather_void kind client ≡ false → (side_of client kind).pending ≡ None → AllByRecursion (WasMade Was kind) (asked_offers setting kind client))
-    → IsHolding Was client → IsKept Was number client (gather_effect setting kind client)
+    → IsHolding Was client → IsKept Was number client (gather_effect setting author kind client)
 unfolding gather_effect
-gather_effect-kept Was number setting kind client numbered was kept = by (is_gather_void kind client) refl
+gather_effect-kept Was number author setting kind client numbered was kept = by (is_gather_void kind client) refl
   where
     by : (void : Bool) → is_gather_void kind client ≡ void
-        → IsKept Was number client (cond void None (Some (plain_effect (gathering setting kind client (side_of client kind).pending) Done)))
+        → IsKept Was number client (cond void None (Some (plain_effect (gathering setting author kind client (side_of client kind).pending) Done)))
     by true is = tt
-    by false is = gathering_kept Was number setting kind client (side_of client kind).pending numbered (was is) kept
+    by false is = gathering_kept Was number author setting kind client (side_of client kind).pending numbered (was is) kept

@@ -184,7 +184,7 @@ stepped_kept Was setting (Turn number kind) world facts asked = acted_kept Was w
     none_kept (Was (suc place)) (suc place) (client_at world.clients (suc place)) _ kept
     (turn_effect-offers (Was (suc place)) (suc place) setting kind (client_at world.clients (suc place))))
 stepped_kept Was setting (Gather number kind) world facts asked = acted_kept Was world number _ (λ place is kept.
-    gather_effect-kept (Was (suc place)) (suc place) setting kind (client_at world.clients (suc place)) (facts.keys place)
+    gather_effect-kept (Was (suc place)) (suc place) number setting kind (client_at world.clients (suc place)) (facts.keys place)
     (asked place kind (ap (λ (client : ℕ). Gather client kind) is)) kept)
 stepped_kept Was setting (Post number kind) world facts asked = acted_kept Was world number _ (λ place is kept.
     none_kept (Was (suc place)) (suc place) (client_at world.clients (suc place)) _ kept
@@ -227,7 +227,7 @@ gather_done : (setting : Setting) (world : World) (place : ℕ) (kind : Kind) �
 unfolding stepped gather_effect affected
 gather_done setting world place kind is =
     ap (λ (void : Bool). is_void (last_outcome (affected world (suc place) (cond void None
-    (Some (plain_effect (gathering setting kind (client_at world.clients (suc place)) (side_at world (suc place) kind).pending) Done)))))) is
+    (Some (plain_effect (gathering setting (suc place) kind (client_at world.clients (suc place)) (side_at world (suc place) kind).pending) Done)))))) is
     ∙ ap is_void (last_is world.outcomes Done)
 
 -- what a gather of a schedule asks for was offered
@@ -249,9 +249,9 @@ asked_were setting schedule before later event splits place kind is done waits =
     offers = asked_offers setting kind (client_at (world_before setting schedule before).clients (suc place))
 
 -- before any event nothing was offered
-opening_kept : (Was : ℕ → Offerings) (clients : ℕ) (passes : List (List ℕ)) → AreClientsKept Was (opening clients passes)
+opening_kept : (Was : ℕ → Offerings) (clients seed : ℕ) (passes : List (List ℕ)) → AreClientsKept Was (opening clients seed passes)
 unfolding outcome_at
-opening_kept Was clients passes place =
+opening_kept Was clients seed passes place =
     opening_client (λ client. IsClientKept (Was (suc place)) (suc place) [] client) new clients (suc place - 1)
   where
     new : IsClientKept (Was (suc place)) (suc place) [] new_client
@@ -282,7 +282,7 @@ pub before_kept : (setting : Setting) (schedule : Schedule) (before later : List
     → AreClientsKept (WasOffered setting schedule) (world_before setting schedule before)
 unfolding run
 before_kept setting schedule before later splits =
-    further_kept setting schedule before [] later splits (opening_kept (WasOffered setting schedule) schedule.clients schedule.passes)
+    further_kept setting schedule before [] later splits (opening_kept (WasOffered setting schedule) schedule.clients schedule.seed schedule.passes)
 
 pub world_of-EveryOfferIsKept : EveryOfferIsKept
 world_of-EveryOfferIsKept setting schedule = before_kept setting schedule schedule.events [] (sym (append-nil schedule.events))

@@ -19,7 +19,7 @@ use Rattle.sync_model.specs.Settings.{Setting, decided_by, with_key}
 use Rattle.sync_model.specs.Sides.{Side, side_edited, side_offered, mailed}
 use Rattle.sync_model.specs.Clients.{Client, Effect, side_of, with_side, plain_effect, opens, batch_mailed, wanted_name}
 use Rattle.sync_model.specs.Changes.{edit_hash, own_at, edit_refusal, edit_taken, edit_effect, change_effect, cut_short, cut_effect, crash_effect, pass_value, set_pass_refusal, set_pass_effect, give_pass_refusal, give_pass_effect}
-use Rattle.sync_model.specs.Sending.{sealed, asked_offers, holding, gathered, gathering, is_gather_void, gather_effect, ask_of, is_busy, ask_effect, commit_of, offer_effect, lose_effect}
+use Rattle.sync_model.specs.Sending.{drawing, sealed, asked_offers, holding, gathered, gathering, is_gather_void, gather_effect, ask_of, is_busy, ask_effect, commit_of, offer_effect, lose_effect}
 use Rattle.sync_model.specs.Receiving.{posted, post_effect_at, post_effect, turn_effect_at, turn_effect}
 use Rattle.sync_model.specs.Worlds.{outcome_at}
 use Rattle.sync_model.specs.FateFacts.{Saying, IsSaidOfEntry, IsSaidOfCall, AreOfDistinctKeys, IsSaidOfTask, IsSaidOfSide, IsSaidOfClient}
@@ -78,14 +78,14 @@ crash_effect-said Says number outcomes client = (restarted-said (Says number) nu
 
 -- passphrases
 pub set_pass_effect-said : (Says : ℕ → Saying) (number : ℕ) (outcomes : List EventOutcome) (setting : Setting) (pass : List ℕ) (client : Client)
-    → IsSaidOfClient (Says number) number outcomes client → IsSaidOfEffect Says number outcomes (set_pass_effect setting number pass client)
+    → IsSaidOfClient (Says number) number outcomes client → IsSaidOfEffect Says number outcomes (set_pass_effect setting setting.pass_kind number pass client)
 unfolding set_pass_effect
-set_pass_effect-said Says number outcomes setting pass client said = by (is_some (set_pass_refusal setting pass client))
+set_pass_effect-said Says number outcomes setting pass client said = by (is_some (set_pass_refusal setting setting.pass_kind pass client))
   where
-    by : (refused : Bool) → IsSaidOfEffect Says number outcomes (cond refused None (Some (edit_taken setting number (SetNigori (pass_value setting client.bag pass))
+    by : (refused : Bool) → IsSaidOfEffect Says number outcomes (cond refused None (Some (edit_taken setting number (SetNigori (pass_value setting setting.pass_kind client.bag pass))
         (record client { bag = with_key setting client.bag (setting.pass_key pass) }))))
     by true = tt
-    by false = edit_taken-said Says number outcomes setting (SetNigori (pass_value setting client.bag pass))
+    by false = edit_taken-said Says number outcomes setting (SetNigori (pass_value setting setting.pass_kind client.bag pass))
         (record client { bag = with_key setting client.bag (setting.pass_key pass) })
         (alike-said (Says number) number outcomes client _ refl refl refl said.held said.awaits said.sides)
 
@@ -110,28 +110,28 @@ batch_mailed-said Says number outcomes setting client kind side batch is distinc
 -- a gather
 gathering-said : (Says : Saying) (number : ℕ) (outcomes : List EventOutcome) (setting : Setting) (kind : Kind) (client : Client) (pending : Option Batch)
     → IfSome pending (λ batch. AreOfDistinctKeys batch.updates) → Each (λ hash. IsSaidOfKey Says kind) (side_of client kind).states
-    → IsSaidOfClient Says number outcomes client → IsSaidOfClient Says number outcomes (gathering setting kind client pending)
+    → IsSaidOfClient Says number outcomes client → IsSaidOfClient Says number outcomes (gathering setting number kind client pending)
 gathering-said Says number outcomes setting kind client (Some batch) distinct keys said = by (opens setting client.bag batch)
   where
     by : (opened : Bool) → IsSaidOfClient Says number outcomes (cond opened (batch_mailed setting client kind (side_of client kind) batch) client)
     by true = batch_mailed-said Says number outcomes setting client kind (side_of client kind) batch (said.sides kind) distinct said
     by false = said
 gathering-said Says number outcomes setting kind client None distinct keys said =
-    let holds : Client = holding kind (wanted_name setting client kind) (gathered setting kind client) client
+    let holds : Client = holding (drawing setting number client) kind (wanted_name setting client kind) (gathered setting kind client) client
     in let held : IsSaidOfClient Says number outcomes holds = alike-said Says number outcomes client holds refl refl refl
-    (all_append (IsSaidOfEntry Says) client.held (sealed kind (wanted_name setting client kind) client.drawn (gathered setting kind client)) said.held
-    (sealed_said Says kind (wanted_name setting client kind) client.drawn (gathered setting kind client) (gathered_said Says setting kind client keys)))
+    (all_append (IsSaidOfEntry Says) client.held (sealed (drawing setting number client) kind (wanted_name setting client kind) client.drawn (gathered setting kind client)) said.held
+    (sealed_said Says (drawing setting number client) kind (wanted_name setting client kind) client.drawn (gathered setting kind client) (gathered_said Says setting kind client keys)))
     said.awaits said.sides
     in with_side-said Says number outcomes holds kind (side_offered (side_of holds kind) (asked_offers setting kind client))
     record { mailbox = (held.sides kind).mailbox; pending = (held.sides kind).pending; letter = (held.sides kind).letter } held
 
 pub gather_effect-said : (Says : ℕ → Saying) (number : ℕ) (outcomes : List EventOutcome) (setting : Setting) (kind : Kind) (client : Client)
     → Each (λ hash. IsSaidOfKey (Says number) kind) (side_of client kind).states
-    → IsSaidOfClient (Says number) number outcomes client → IsSaidOfEffect Says number outcomes (gather_effect setting kind client)
+    → IsSaidOfClient (Says number) number outcomes client → IsSaidOfEffect Says number outcomes (gather_effect setting number kind client)
 unfolding gather_effect
 gather_effect-said Says number outcomes setting kind client keys said = by (is_gather_void kind client)
   where
-    by : (void : Bool) → IsSaidOfEffect Says number outcomes (cond void None (Some (plain_effect (gathering setting kind client (side_of client kind).pending) Done)))
+    by : (void : Bool) → IsSaidOfEffect Says number outcomes (cond void None (Some (plain_effect (gathering setting number kind client (side_of client kind).pending) Done)))
     by true = tt
     by false = done_said Says number outcomes _ (gathering-said (Says number) number outcomes setting kind client (side_of client kind).pending
         (said.sides kind).pending keys said)

@@ -26,7 +26,7 @@ use Rattle.sync_model.specs.Settings.{Setting, decided_by, with_key}
 use Rattle.sync_model.specs.Sides.{Side, side_edited, side_offered, after_task, task_notes, mailed}
 use Rattle.sync_model.specs.Clients.{Client, Effect, side_of, with_side, restarted, plain_effect, wanted_name, opens, bag_with, batch_mailed}
 use Rattle.sync_model.specs.Changes.{edit_hash, own_at, edit_refusal, edit_taken, edit_effect, change_effect, cut_short, cut_effect, crash_effect, pass_value, set_pass_refusal, set_pass_effect, give_pass_refusal, give_pass_effect}
-use Rattle.sync_model.specs.Sending.{holding, asked_offers, gathered, gathering, is_gather_void, gather_effect, ask_of, is_busy, ask_effect, commit_of, offer_effect, lose_effect}
+use Rattle.sync_model.specs.Sending.{drawing, holding, asked_offers, gathered, gathering, is_gather_void, gather_effect, ask_of, is_busy, ask_effect, commit_of, offer_effect, lose_effect}
 use Rattle.sync_model.specs.Receiving.{posted, post_effect_at, post_effect, turn_effect_at, turn_effect, told, is_other_store, is_fit, answered_with, answer_effect}
 use Rattle.sync_model.specs.Report.{is_void}
 use Rattle.sync_model.specs.Worlds.{World}
@@ -144,17 +144,17 @@ bag_makes setting event world number client bag (Some effect) made = by
 
 -- passphrases
 pub set_pass_effect-makes : (setting : Setting) (event : Event) (world : World) (number : ℕ) (pass : List ℕ) (client : Client)
-    → user_of event ≡ number → edit_by setting world event ≡ Some (SetNigori (pass_value setting client.bag pass))
-    → EffectMakes setting event world number client (set_pass_effect setting number pass client)
+    → user_of event ≡ number → edit_by setting world event ≡ Some (SetNigori (pass_value setting setting.pass_kind client.bag pass))
+    → EffectMakes setting event world number client (set_pass_effect setting setting.pass_kind number pass client)
 unfolding set_pass_effect
-set_pass_effect-makes setting event world number pass client user makes = by (is_some (set_pass_refusal setting pass client))
+set_pass_effect-makes setting event world number pass client user makes = by (is_some (set_pass_refusal setting setting.pass_kind pass client))
   where
-    by : (refused : Bool) → EffectMakes setting event world number client (cond refused None (Some (edit_taken setting number (SetNigori (pass_value setting client.bag pass))
+    by : (refused : Bool) → EffectMakes setting event world number client (cond refused None (Some (edit_taken setting number (SetNigori (pass_value setting setting.pass_kind client.bag pass))
         (record client { bag = with_key setting client.bag (setting.pass_key pass) }))))
     by true = tt
-    by false = bag_makes setting event world number client (with_key setting client.bag (setting.pass_key pass)) (Some (edit_taken setting number (SetNigori (pass_value setting client.bag pass))
+    by false = bag_makes setting event world number client (with_key setting client.bag (setting.pass_key pass)) (Some (edit_taken setting number (SetNigori (pass_value setting setting.pass_kind client.bag pass))
         (record client { bag = with_key setting client.bag (setting.pass_key pass) })))
-        (edit_taken-makes setting event world number (SetNigori (pass_value setting client.bag pass))
+        (edit_taken-makes setting event world number (SetNigori (pass_value setting setting.pass_kind client.bag pass))
         (record client { bag = with_key setting client.bag (setting.pass_key pass) }) user makes)
 
 pub give_pass_effect-makes : (setting : Setting) (event : Event) (world : World) (number : ℕ) (pass : List ℕ) (client : Client)
@@ -176,8 +176,8 @@ with_bag_kept old client bag kept Preference = kept Preference
 with_bag_kept old client bag kept Password = kept Password
 
 -- a batch that is mailed, and a gather
-mailing_kept : (setting : Setting) (kind : Kind) (client : Client) (batch : Batch) → AreKept client (gathering setting kind client (Some batch))
-mailing_kept setting kind client batch = by (opens setting client.bag batch)
+mailing_kept : (setting : Setting) (number : ℕ) (kind : Kind) (client : Client) (batch : Batch) → AreKept client (gathering setting number kind client (Some batch))
+mailing_kept setting number kind client batch = by (opens setting client.bag batch)
   where
     by : (opened : Bool) → AreKept client (cond opened (batch_mailed setting client kind (side_of client kind) batch) client)
     by true = with_bag_kept client (with_side client kind (mailed (side_of client kind) batch)) (bag_with setting client.bag batch.updates)
@@ -203,22 +203,22 @@ side_of-held client held drawn Nigori = refl
 side_of-held client held drawn Preference = refl
 side_of-held client held drawn Password = refl
 
-gathering_noted : (setting : Setting) (kind : Kind) (client : Client) (pending : Option Batch) → AreNoted client (gathering setting kind client pending)
-gathering_noted setting kind client (Some batch) = λ other.
-    kept_noted (side_of client other) (side_of (gathering setting kind client (Some batch)) other) (mailing_kept setting kind client batch other)
-gathering_noted setting kind client None =
-    let holds : Client = holding kind (wanted_name setting client kind) (gathered setting kind client) client
+gathering_noted : (setting : Setting) (number : ℕ) (kind : Kind) (client : Client) (pending : Option Batch) → AreNoted client (gathering setting number kind client pending)
+gathering_noted setting number kind client (Some batch) = λ other.
+    kept_noted (side_of client other) (side_of (gathering setting number kind client (Some batch)) other) (mailing_kept setting number kind client batch other)
+gathering_noted setting number kind client None =
+    let holds : Client = holding (drawing setting number client) kind (wanted_name setting client kind) (gathered setting kind client) client
     in subst (λ (side : Side). AreNoted client (with_side holds kind (side_offered side (asked_offers setting kind client))))
     (sym (side_of-held client holds.held holds.drawn kind)) (holding_noted client holds.held holds.drawn kind (asked_offers setting kind client))
 
 pub gather_effect-makes : (setting : Setting) (event : Event) (world : World) (number : ℕ) (kind : Kind) (client : Client)
-    → EffectMakes setting event world number client (gather_effect setting kind client)
+    → EffectMakes setting event world number client (gather_effect setting number kind client)
 unfolding gather_effect
 gather_effect-makes setting event world number kind client = by (is_gather_void kind client)
   where
-    by : (void : Bool) → EffectMakes setting event world number client (cond void None (Some (plain_effect (gathering setting kind client (side_of client kind).pending) Done)))
+    by : (void : Bool) → EffectMakes setting event world number client (cond void None (Some (plain_effect (gathering setting number kind client (side_of client kind).pending) Done)))
     by true = tt
-    by false = noting_makes setting event world number client (gathering setting kind client (side_of client kind).pending) Done (gathering_noted setting kind client (side_of client kind).pending)
+    by false = noting_makes setting event world number client (gathering setting number kind client (side_of client kind).pending) Done (gathering_noted setting number kind client (side_of client kind).pending)
 
 -- requests
 pub ask_effect-makes : (setting : Setting) (event : Event) (world : World) (number next : ℕ) (client : Client)

@@ -130,14 +130,14 @@ stepped-numbers setting event world facts = record {
 }
 
 -- the world before any event
-opening-numbers : (clients : ℕ) (passes : List (List ℕ)) → NumberFacts (opening clients passes)
+opening-numbers : (clients seed : ℕ) (passes : List (List ℕ)) → NumberFacts (opening clients seed passes)
 unfolding outcome_at fate_of
-opening-numbers clients passes = record {
+opening-numbers clients seed passes = record {
   keys = λ place kind. opening_client (λ client. AreNumbered (side_of client kind).last_edit (side_of client kind).states) (new kind) clients (suc place - 1);
   unsettled = λ place kind edit above. refl;
   sent = record {
-    clients = λ place. opening_client (λ client. IsSaidOfClient (λ kind edit value. edit ≤ (side_at (opening clients passes) (suc place) kind).last_edit) (suc place) [] client)
-        (new_client-said (λ kind edit value. edit ≤ (side_at (opening clients passes) (suc place) kind).last_edit) (suc place) []) clients (suc place - 1);
+    clients = λ place. opening_client (λ client. IsSaidOfClient (λ kind edit value. edit ≤ (side_at (opening clients seed passes) (suc place) kind).last_edit) (suc place) [] client)
+        (new_client-said (λ kind edit value. edit ≤ (side_at (opening clients seed passes) (suc place) kind).last_edit) (suc place) []) clients (suc place - 1);
     outcomes = λ event. tt;
   };
 }
@@ -155,4 +155,4 @@ run-numbers setting world (event ∷ events) facts = run-numbers setting (steppe
 -- what holds of the numbers of each schedule's world
 pub world_of-numbers : (setting : Setting) (schedule : Schedule) → NumberFacts (world_of setting schedule)
 world_of-numbers setting schedule =
-    run-numbers setting (opening schedule.clients schedule.passes) schedule.events (opening-numbers schedule.clients schedule.passes)
+    run-numbers setting (opening schedule.clients schedule.seed schedule.passes) schedule.events (opening-numbers schedule.clients schedule.seed schedule.passes)

@@ -9,7 +9,7 @@ use Rattle.sync_model.specs.Settings.{Setting}
 use Rattle.sync_model.specs.Sides.{States}
 use Rattle.sync_model.specs.Offers.{offer_for, placed, with_due, with_all_due, due_offers, with_reseal, with_reseals, reseal_offers, offers_of}
 use Rattle.sync_model.specs.Clients.{Client, side_of, wanted_name}
-use Rattle.sync_model.specs.Sending.{MAX_ENTRIES, lock_for, drawn_after, sealed, is_held_back, lacks_own_lock, asked_offers, gathered}
+use Rattle.sync_model.specs.Sending.{MAX_ENTRIES, Draws, lock_for, drawn_after, sealed, is_held_back, lacks_own_lock, asked_offers, gathered}
 use Rattle.sync_model.specs.FateFacts.{Saying, IsSaidOfEntry}
 use Rattle.sync_model.proofs.TrueAcks.{all_append}
 use Rattle.sync_model.proofs.WantedWrites.{all_take}
@@ -89,9 +89,9 @@ gathered_said Says setting kind client said = by (lacks_own_lock setting kind cl
     by false = asked_said Says setting kind client said
 
 -- offers as entries
-pub sealed_said : (Says : Saying) (kind : Kind) (name : Option (List ℕ)) (drawn : ℕ) (offers : List Offer)
-    → AllByRecursion (IsSaidOfOffer Says kind) offers → AllByRecursion (IsSaidOfEntry Says) (sealed kind name drawn offers)
+pub sealed_said : (Says : Saying) (draws : Draws) (kind : Kind) (name : Option (List ℕ)) (drawn : ℕ) (offers : List Offer)
+    → AllByRecursion (IsSaidOfOffer Says kind) offers → AllByRecursion (IsSaidOfEntry Says) (sealed draws kind name drawn offers)
 unfolding sealed
-sealed_said Says kind name drawn [] all = tt
-sealed_said Says kind name drawn (offer ∷ offers) all =
-    (all.0, sealed_said Says kind name (drawn_after (lock_for kind name offer.value) drawn) offers all.1)
+sealed_said Says draws kind name drawn [] all = tt
+sealed_said Says draws kind name drawn (offer ∷ offers) all =
+    (all.0, sealed_said Says draws kind name (drawn_after (lock_for kind name offer.value) drawn) offers all.1)

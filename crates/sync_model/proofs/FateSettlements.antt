@@ -140,6 +140,7 @@ affected_step setting event world acting (Some effect) made place kind = by (cas
       outcomes = effect.outcome ∷ world.outcomes;
       clients = with_client_at world.clients (suc acting - 1) effect.client;
       settlements = world.settlements ++ map (settlement_of (suc acting) effect.kind) effect.notes;
+      seed = world.seed;
       passes = world.passes;
     }
 

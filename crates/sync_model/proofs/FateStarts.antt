@@ -78,14 +78,14 @@ cut_effect-edits setting number edit client =
     cut_short-edits setting edit client (change_effect setting number edit client) (change_effect-edits setting number edit client)
 
 set_pass_effect-edits : (setting : Setting) (number : ℕ) (pass : List ℕ) (client : Client)
-    → EffectEdits setting (SetNigori (pass_value setting client.bag pass)) client (set_pass_effect setting number pass client)
+    → EffectEdits setting (SetNigori (pass_value setting setting.pass_kind client.bag pass)) client (set_pass_effect setting setting.pass_kind number pass client)
 unfolding set_pass_effect
-set_pass_effect-edits setting number pass client = by (is_some (set_pass_refusal setting pass client))
+set_pass_effect-edits setting number pass client = by (is_some (set_pass_refusal setting setting.pass_kind pass client))
   where
-    by : (refused : Bool) → EffectEdits setting (SetNigori (pass_value setting client.bag pass)) client
-        (cond refused None (Some (edit_taken setting number (SetNigori (pass_value setting client.bag pass)) (record client { bag = with_key setting client.bag (setting.pass_key pass) }))))
+    by : (refused : Bool) → EffectEdits setting (SetNigori (pass_value setting setting.pass_kind client.bag pass)) client
+        (cond refused None (Some (edit_taken setting number (SetNigori (pass_value setting setting.pass_kind client.bag pass)) (record client { bag = with_key setting client.bag (setting.pass_key pass) }))))
     by true = tt
-    by false = edit_taken-edits setting number (SetNigori (pass_value setting client.bag pass)) (record client { bag = with_key setting client.bag (setting.pass_key pass) })
+    by false = edit_taken-edits setting number (SetNigori (pass_value setting setting.pass_kind client.bag pass)) (record client { bag = with_key setting client.bag (setting.pass_key pass) })
 
 -- a world that an event of a client changes, where it is not void
 affected_edits : (setting : Setting) (edit : UserEdit) (world : World) (place : ℕ) (effect : Option Effect)
@@ -127,9 +127,9 @@ made_edits setting (Cut number true made) world place edit user makes done =
     (same_Some made edit makes) (cut_effect-edits setting number made (client_at world.clients number)))
 made_edits setting (Cut number false made) world place edit user makes done = absurd (none-some edit makes)
 made_edits setting (SetPass number pass) world place edit user makes done =
-    acted_edits setting edit world place number (set_pass_effect setting number (pass_at world.passes pass)) (sym user) done
-    (subst (λ (found : UserEdit). EffectEdits setting found (client_at world.clients number) (set_pass_effect setting number (pass_at world.passes pass) (client_at world.clients number)))
-    (same_Some (SetNigori (pass_value setting (client_at world.clients number).bag (pass_at world.passes pass))) edit makes)
+    acted_edits setting edit world place number (set_pass_effect setting setting.pass_kind number (pass_at world.passes pass)) (sym user) done
+    (subst (λ (found : UserEdit). EffectEdits setting found (client_at world.clients number) (set_pass_effect setting setting.pass_kind number (pass_at world.passes pass) (client_at world.clients number)))
+    (same_Some (SetNigori (pass_value setting setting.pass_kind (client_at world.clients number).bag (pass_at world.passes pass))) edit makes)
     (set_pass_effect-edits setting number (pass_at world.passes pass) (client_at world.clients number)))
 made_edits setting (Turn number kind) world place edit user makes done = absurd (none-some edit makes)
 made_edits setting (Gather number kind) world place edit user makes done = absurd (none-some edit makes)
@@ -152,7 +152,7 @@ pub made_by_some : (setting : Setting) (event : Event) (world : World) (edit : U
 unfolding stepped
 made_by_some setting (Edit number made) world edit user makes = acted_by_none world number (change_effect setting number made) (sym user)
 made_by_some setting (Cut number kept made) world edit user makes = acted_by_none world number (cut_effect setting number kept made) (sym user)
-made_by_some setting (SetPass number pass) world edit user makes = acted_by_none world number (set_pass_effect setting number (pass_at world.passes pass)) (sym user)
+made_by_some setting (SetPass number pass) world edit user makes = acted_by_none world number (set_pass_effect setting setting.pass_kind number (pass_at world.passes pass)) (sym user)
 made_by_some setting (Turn number kind) world edit user makes = absurd (none-some edit makes)
 made_by_some setting (Gather number kind) world edit user makes = absurd (none-some edit makes)
 made_by_some setting (Post number kind) world edit user makes = absurd (none-some edit makes)

@@ -104,14 +104,14 @@ run-append setting world (event ∷ before) later = run-append setting (stepped 
 pub later_world : (setting : Setting) (schedule : Schedule) (before later : List Event) → schedule.events ≡ before ++ later
     → world_of setting schedule ≡ run setting (world_before setting schedule before) later
 later_world setting schedule before later splits =
-    ap (λ (events : List Event). run setting (opening schedule.clients schedule.passes) events) splits
-    ∙ run-append setting (opening schedule.clients schedule.passes) before later
+    ap (λ (events : List Event). run setting (opening schedule.clients schedule.seed schedule.passes) events) splits
+    ∙ run-append setting (opening schedule.clients schedule.seed schedule.passes) before later
 
 -- the world before a further event
 pub next_world : (setting : Setting) (schedule : Schedule) (before : List Event) (event : Event)
     → world_before setting schedule (before ++ event ∷ []) ≡ stepped setting event (world_before setting schedule before)
 unfolding run
-next_world setting schedule before event = run-append setting (opening schedule.clients schedule.passes) before (event ∷ [])
+next_world setting schedule before event = run-append setting (opening schedule.clients schedule.seed schedule.passes) before (event ∷ [])
 
 -- what holds before some events still does at the end
 pub stays_to_end : (Q : Fact) → Stays Q → (setting : Setting) (schedule : Schedule) (before later : List Event) → schedule.events ≡ before ++ later

@@ -110,10 +110,10 @@ unfolding run
 run_gives setting world [] before = before
 run_gives setting world (event ∷ events) before = run_gives setting (stepped setting event world) events (stepped_gives setting event world before)
 
-opening_gives : (clients : ℕ) (passes : List (List ℕ)) → GiveWrites (opening clients passes).history (opening clients passes).outcomes
+opening_gives : (clients seed : ℕ) (passes : List (List ℕ)) → GiveWrites (opening clients seed passes).history (opening clients seed passes).outcomes
 unfolding outcome_at
-opening_gives clients passes delivery = tt
+opening_gives clients seed passes delivery = tt
 
 pub world_of-EveryReplyGivesWrites : EveryReplyGivesWrites
 world_of-EveryReplyGivesWrites setting schedule =
-    run_gives setting (opening schedule.clients schedule.passes) schedule.events (opening_gives schedule.clients schedule.passes)
+    run_gives setting (opening schedule.clients schedule.seed schedule.passes) schedule.events (opening_gives schedule.clients schedule.seed schedule.passes)

@@ -182,7 +182,7 @@ give_pass_effect-HasKeys setting history outcomes pass client has =
 -- a new passphrase's keys wait with all that the bag has, its own key among them
 chosen-StateHasKeys : (setting : Setting) (history : List (Entry Content)) (bag : List NigoriKey) (way : List (List ℕ)) (state : KeyState) (pass : List ℕ) (number : ℕ)
     → HaveNames setting bag way → StateHasKeys setting history bag way state
-    → StateHasKeys setting history (with_key setting bag (setting.pass_key pass)) way (edited state (Keys_value (pass_value setting bag pass)) number)
+    → StateHasKeys setting history (with_key setting bag (setting.pass_key pass)) way (edited state (Keys_value (pass_value setting setting.pass_kind bag pass)) number)
 chosen-StateHasKeys setting history bag way state pass number had has =
     let more : List NigoriKey = with_key setting bag (setting.pass_key pass)
     in let grows : HaveNames setting more (names_of setting bag) = with_key-keeps setting bag (setting.pass_key pass)
@@ -205,15 +205,15 @@ chosen-StateHasKeys setting history bag way state pass number had has =
 chosen-HasKeys : (setting : Setting) (history : List (Entry Content)) (outcomes : List EventOutcome) (pass : List ℕ) (client : Client)
     → HasKeys setting history outcomes client
     → HasKeys setting history outcomes (with_side (record client { bag = with_key setting client.bag (setting.pass_key pass) }) Nigori
-    (side_edited client.nigori (nigori_hash setting) (Keys_value (pass_value setting client.bag pass))))
+    (side_edited client.nigori (nigori_hash setting) (Keys_value (pass_value setting setting.pass_kind client.bag pass))))
 chosen-HasKeys setting history outcomes pass client has =
     let more : List NigoriKey = with_key setting client.bag (setting.pass_key pass)
     in let way : List (List ℕ) = under_way setting outcomes client.nigori client.held client.outstanding
     in let grows : HaveNames setting more (names_of setting client.bag) = with_key-keeps setting client.bag (setting.pass_key pass)
     in let larger = ClientHasKeys-more setting history outcomes client.nigori client.bag more client.held client.outstanding grows has
-    in let holds : StatesHaveKeys setting history more way (side_edited client.nigori (nigori_hash setting) (Keys_value (pass_value setting client.bag pass))).states
+    in let holds : StatesHaveKeys setting history more way (side_edited client.nigori (nigori_hash setting) (Keys_value (pass_value setting setting.pass_kind client.bag pass))).states
     = with_state-HoldsOfEntity setting (StateHasKeys setting history more way) client.nigori.states (nigori_hash setting)
-    (edited (state_at client.nigori.states (nigori_hash setting)) (Keys_value (pass_value setting client.bag pass)) (client.nigori.last_edit + 1)) refl has.entity
+    (edited (state_at client.nigori.states (nigori_hash setting)) (Keys_value (pass_value setting setting.pass_kind client.bag pass)) (client.nigori.last_edit + 1)) refl has.entity
     (chosen-StateHasKeys setting history client.bag way (state_at client.nigori.states (nigori_hash setting)) pass (client.nigori.last_edit + 1) has.way has.state)
     in record {
       entity = holds.entity;
@@ -228,12 +228,12 @@ chosen-HasKeys setting history outcomes pass client has =
     }
 
 pub set_pass_effect-HasKeys : (setting : Setting) (history : List (Entry Content)) (outcomes : List EventOutcome) (number : ℕ) (pass : List ℕ) (client : Client)
-    → HasKeys setting history outcomes client → MayHaveKeys setting history outcomes (set_pass_effect setting number pass client)
+    → HasKeys setting history outcomes client → MayHaveKeys setting history outcomes (set_pass_effect setting setting.pass_kind number pass client)
 unfolding set_pass_effect
 set_pass_effect-HasKeys setting history outcomes number pass client has =
     let outcome : EventOutcome = Edited number Nigori (client.nigori.last_edit + 1)
-    in unless-MayHaveKeys setting history outcomes (is_some (set_pass_refusal setting pass client))
-    (edit_taken setting number (SetNigori (pass_value setting client.bag pass)) (record client { bag = with_key setting client.bag (setting.pass_key pass) })) record {
+    in unless-MayHaveKeys setting history outcomes (is_some (set_pass_refusal setting setting.pass_kind pass client))
+    (edit_taken setting number (SetNigori (pass_value setting setting.pass_kind client.bag pass)) (record client { bag = with_key setting client.bag (setting.pass_key pass) })) record {
       client = chosen-HasKeys setting history (outcome ∷ outcomes) pass client (HasKeys-next setting history outcome outcomes client has);
       sent = tt;
       gave = tt;

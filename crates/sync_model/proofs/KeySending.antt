@@ -20,7 +20,7 @@ use Rattle.sync_model.specs.Sides.{States, Side, state_at, after_offer, after_of
 use Rattle.sync_model.specs.KeyStates.{MAX_OFFERED, is_offered, with_offered, noted}
 use Rattle.sync_model.specs.Offers.{with_due, with_all_due, with_reseals, offers_of}
 use Rattle.sync_model.specs.Clients.{Client, side_of, plain_effect, nigori_base, lock_if_had, default_name, needs_default, wanted_name, opens, batch_mailed}
-use Rattle.sync_model.specs.Sending.{MAX_ENTRIES, own_lock, lock_for, drawn_after, entry_of, sealed, is_held_back, lacks_own_lock, asked_offers, gathered, holding, gathering, is_gather_void, gather_effect, is_busy, ask_of, ask_effect, commit_of, offer_effect}
+use Rattle.sync_model.specs.Sending.{Draws, drawing, MAX_ENTRIES, own_lock, lock_for, drawn_after, entry_of, sealed, is_held_back, lacks_own_lock, asked_offers, gathered, holding, gathering, is_gather_void, gather_effect, is_busy, ask_of, ask_effect, commit_of, offer_effect}
 use Rattle.sync_model.specs.Outcomes.{entries_sent}
 use Rattle.sync_model.specs.Laws.{lock_names, newest_keys}
 use Rattle.sync_model.specs.KeyFacts.{Each, HaveNames, HaveOffered, names_in, profile_value, profile_at, HistoryHasKeys, CarriesKeys, KeepsKeys, PendingTells, names_sent, names_awaited, names_in_letter, names_in_tasks, under_way, StateHasKeys, IsOneEntity, ClientHasKeys, HasKeys}
@@ -148,9 +148,9 @@ noted-HasKeys setting history outcomes side bag held outstanding offers own has 
 
 -- an entry of an own value that waits with its keys carries them
 carries_own : (setting : Setting) (history : List (Entry Content)) (bag : List NigoriKey) (way : List (List ℕ)) (state : KeyState)
-    (name : Option (List ℕ)) (drawn : ℕ) (offer : Offer) → StateHasKeys setting history bag way state → IsOwnOffer setting state offer
-    → CarriesKeys setting history (entry_of Nigori (lock_for Nigori name offer.value) drawn offer)
-carries_own setting history bag way state name drawn offer has own =
+    (draws : Draws) (name : Option (List ℕ)) (drawn : ℕ) (offer : Offer) → StateHasKeys setting history bag way state → IsOwnOffer setting state offer
+    → CarriesKeys setting history (entry_of draws Nigori (lock_for Nigori name offer.value) drawn offer)
+carries_own setting history bag way state draws name drawn offer has own =
     let waits = has.waits own.due
     in let base : HaveNames setting (keys_in state.own) (names_in setting (profile_at history state.known))
     = subst (λ (value : Value). HaveNames setting (keys_in state.own) (names_in setting value)) has.known.is waits.has_base
@@ -164,29 +164,29 @@ carries_own setting history bag way state name drawn offer has own =
     }
 
 sealed_own : (setting : Setting) (history : List (Entry Content)) (bag : List NigoriKey) (way : List (List ℕ)) (state : KeyState)
-    (name : Option (List ℕ)) (drawn : ℕ) (offers : List Offer) → StateHasKeys setting history bag way state → Each (IsOwnOffer setting state) offers
-    → Each (KeepsKeys setting history) (sealed Nigori name drawn offers)
+    (draws : Draws) (name : Option (List ℕ)) (drawn : ℕ) (offers : List Offer) → StateHasKeys setting history bag way state → Each (IsOwnOffer setting state) offers
+    → Each (KeepsKeys setting history) (sealed draws Nigori name drawn offers)
 unfolding sealed
-sealed_own setting history bag way state name drawn [] has own = tt
-sealed_own setting history bag way state name drawn (offer ∷ offers) has own = (
+sealed_own setting history bag way state draws name drawn [] has own = tt
+sealed_own setting history bag way state draws name drawn (offer ∷ offers) has own = (
   record {
-    of_profile = λ is. carries_own setting history bag way state name drawn offer has own.0;
+    of_profile = λ is. carries_own setting history bag way state draws name drawn offer has own.0;
     of_others = λ other. absurd (false≢true (sym other));
   },
-  sealed_own setting history bag way state name (drawn_after (lock_for Nigori name offer.value) drawn) offers has own.1,
+  sealed_own setting history bag way state draws name (drawn_after (lock_for Nigori name offer.value) drawn) offers has own.1,
 )
 
 -- the keys in these entries are those of the own value
-sealed_own-names : (setting : Setting) (names : List (List ℕ)) (state : KeyState) (name : Option (List ℕ)) (drawn : ℕ) (offers : List Offer)
+sealed_own-names : (setting : Setting) (names : List (List ℕ)) (state : KeyState) (draws : Draws) (name : Option (List ℕ)) (drawn : ℕ) (offers : List Offer)
     → (IsTrue (is_some state.due) → Has names (names_in setting state.own)) → Each (IsOwnOffer setting state) offers
-    → Has names (names_sent setting (sealed Nigori name drawn offers))
+    → Has names (names_sent setting (sealed draws Nigori name drawn offers))
 unfolding sealed
-sealed_own-names setting names state name drawn [] had own = refl
-sealed_own-names setting names state name drawn (offer ∷ offers) had own =
+sealed_own-names setting names state draws name drawn [] had own = refl
+sealed_own-names setting names state draws name drawn (offer ∷ offers) had own =
     has_names-both names (names_in setting offer.value)
-    (names_sent setting (sealed Nigori name (drawn_after (lock_for Nigori name offer.value) drawn) offers))
+    (names_sent setting (sealed draws Nigori name (drawn_after (lock_for Nigori name offer.value) drawn) offers))
     (subst (λ (value : Value). Has names (names_in setting value)) own.0.own (had own.0.due))
-    (sealed_own-names setting names state name (drawn_after (lock_for Nigori name offer.value) drawn) offers had own.1)
+    (sealed_own-names setting names state draws name (drawn_after (lock_for Nigori name offer.value) drawn) offers had own.1)
 
 -- a lock of another type is the one that is wanted, if any
 lock_for-names : (kind : Kind) (names : List (List ℕ)) (name : Option (List ℕ)) (value : Value) → same_kind kind Nigori ≡ false
@@ -197,29 +197,29 @@ lock_for-names Preference names name value other has =
 lock_for-names Password names name value other has =
     cond_both (is_absent value) None name (λ (lock : Option (List ℕ)). Has names (lock_names lock)) (λ absent. refl) (λ present. has)
 
-sealed_others : (setting : Setting) (history : List (Entry Content)) (kind : Kind) (name : Option (List ℕ)) (drawn : ℕ) (offers : List Offer)
+sealed_others : (setting : Setting) (history : List (Entry Content)) (kind : Kind) (draws : Draws) (name : Option (List ℕ)) (drawn : ℕ) (offers : List Offer)
     → same_kind kind Nigori ≡ false → HaveNames setting (newest_keys history) (lock_names name)
-    → Each (KeepsKeys setting history) (sealed kind name drawn offers)
+    → Each (KeepsKeys setting history) (sealed draws kind name drawn offers)
 unfolding sealed
-sealed_others setting history kind name drawn [] other has = tt
-sealed_others setting history kind name drawn (offer ∷ offers) other has = (
+sealed_others setting history kind draws name drawn [] other has = tt
+sealed_others setting history kind draws name drawn (offer ∷ offers) other has = (
   record {
     of_profile = λ is. absurd (false≢true (sym other ∙ is));
     of_others = λ is. lock_for-names kind (names_of setting (newest_keys history)) name offer.value other has;
   },
-  sealed_others setting history kind name (drawn_after (lock_for kind name offer.value) drawn) offers other has,
+  sealed_others setting history kind draws name (drawn_after (lock_for kind name offer.value) drawn) offers other has,
 )
 
 -- entries of other types carry none of the profile's keys
-sealed_others-names : (setting : Setting) (names : List (List ℕ)) (kind : Kind) (name : Option (List ℕ)) (drawn : ℕ) (offers : List Offer)
-    → same_kind kind Nigori ≡ false → Has names (names_sent setting (sealed kind name drawn offers))
+sealed_others-names : (setting : Setting) (names : List (List ℕ)) (kind : Kind) (draws : Draws) (name : Option (List ℕ)) (drawn : ℕ) (offers : List Offer)
+    → same_kind kind Nigori ≡ false → Has names (names_sent setting (sealed draws kind name drawn offers))
 unfolding sealed
-sealed_others-names setting names kind name drawn [] other = refl
-sealed_others-names setting names kind name drawn (offer ∷ offers) other =
+sealed_others-names setting names kind draws name drawn [] other = refl
+sealed_others-names setting names kind draws name drawn (offer ∷ offers) other =
     has_names-both names (names_in setting (cond (same_kind kind Nigori) offer.value Absent))
-    (names_sent setting (sealed kind name (drawn_after (lock_for kind name offer.value) drawn) offers))
+    (names_sent setting (sealed draws kind name (drawn_after (lock_for kind name offer.value) drawn) offers))
     (subst (λ (value : Value). Has names (names_in setting value)) (sym (cond-false (same_kind kind Nigori) offer.value Absent other)) refl)
-    (sealed_others-names setting names kind name (drawn_after (lock_for kind name offer.value) drawn) offers other)
+    (sealed_others-names setting names kind draws name (drawn_after (lock_for kind name offer.value) drawn) offers other)
 
 -- a lock that is had is a value's own
 lock_if_had-names : (setting : Setting) (bag : List NigoriKey) (names : List (List ℕ)) (value : Value) → Has names (lock_names (own_lock value))
@@ -305,57 +305,59 @@ held-HasKeys setting history outcomes client new keeps had own has =
     }
 
 -- the profile's keys are gathered
-gathered_of_profile : (setting : Setting) (history : List (Entry Content)) (outcomes : List EventOutcome) (client : Client) (pending : Option Batch)
+gathered_of_profile : (setting : Setting) (history : List (Entry Content)) (outcomes : List EventOutcome) (number : ℕ) (client : Client) (pending : Option Batch)
     → PendingTells setting history pending → HasKeys setting history outcomes client
-    → HasKeys setting history outcomes (gathering setting Nigori client pending)
-gathered_of_profile setting history outcomes client None tells has =
+    → HasKeys setting history outcomes (gathering setting number Nigori client pending)
+gathered_of_profile setting history outcomes number client None tells has =
     let state : KeyState = state_at client.nigori.states (nigori_hash setting)
+    in let draws : Draws = drawing setting number client
     in let name : Option (List ℕ) = wanted_name setting client Nigori
     in let own = gathered-own setting client has.entity
-    in noted-HasKeys setting history outcomes client.nigori client.bag (client.held ++ sealed Nigori name client.drawn (gathered setting Nigori client)) client.outstanding
+    in noted-HasKeys setting history outcomes client.nigori client.bag (client.held ++ sealed draws Nigori name client.drawn (gathered setting Nigori client)) client.outstanding
     (asked_offers setting Nigori client) (asked-own setting client has.entity)
-    (held-HasKeys setting history outcomes client (sealed Nigori name client.drawn (gathered setting Nigori client))
-    (sealed_own setting history client.bag (under_way setting outcomes client.nigori client.held client.outstanding) state name client.drawn (gathered setting Nigori client) has.state own)
-    (sealed_own-names setting (names_of setting client.bag) state name client.drawn (gathered setting Nigori client) (λ due. (has.state.waits due).had) own)
-    (λ due. sealed_own-names setting (names_in setting state.own) state name client.drawn (gathered setting Nigori client) (λ again. has_names-self (names_in setting state.own)) own)
+    (held-HasKeys setting history outcomes client (sealed draws Nigori name client.drawn (gathered setting Nigori client))
+    (sealed_own setting history client.bag (under_way setting outcomes client.nigori client.held client.outstanding) state draws name client.drawn (gathered setting Nigori client) has.state own)
+    (sealed_own-names setting (names_of setting client.bag) state draws name client.drawn (gathered setting Nigori client) (λ due. (has.state.waits due).had) own)
+    (λ due. sealed_own-names setting (names_in setting state.own) state draws name client.drawn (gathered setting Nigori client) (λ again. has_names-self (names_in setting state.own)) own)
     has)
-gathered_of_profile setting history outcomes client (Some batch) tells has =
+gathered_of_profile setting history outcomes number client (Some batch) tells has =
     cond_both (opens setting client.bag batch) (batch_mailed setting client Nigori client.nigori batch) client (λ (next : Client). HasKeys setting history outcomes next)
     (λ open_now. mailed-HasKeys setting history outcomes client.nigori client.bag client.held client.outstanding batch tells has) (λ waits. has)
 
 -- another type is gathered
-gathered_of_other : (setting : Setting) (history : List (Entry Content)) (outcomes : List EventOutcome) (kind : Kind) (client : Client) (pending : Option Batch)
+gathered_of_other : (setting : Setting) (history : List (Entry Content)) (outcomes : List EventOutcome) (number : ℕ) (kind : Kind) (client : Client) (pending : Option Batch)
     → same_kind kind Nigori ≡ false → HistoryHasKeys setting history → HasKeys setting history outcomes client
-    → HasKeys setting history outcomes (gathering setting kind client pending)
-gathered_of_other setting history outcomes kind client None other kept has =
+    → HasKeys setting history outcomes (gathering setting number kind client pending)
+gathered_of_other setting history outcomes number kind client None other kept has =
     let name : Option (List ℕ) = wanted_name setting client kind
-    in let holds : Client = holding kind name (gathered setting kind client) client
+    in let draws : Draws = drawing setting number client
+    in let holds : Client = holding draws kind name (gathered setting kind client) client
     in with_side-HasKeys setting history outcomes holds kind (side_offered (side_of holds kind) (asked_offers setting kind client)) other
-    (held-HasKeys setting history outcomes client (sealed kind name client.drawn (gathered setting kind client))
-    (sealed_others setting history kind name client.drawn (gathered setting kind client) other (wanted_name-newest setting history outcomes kind client kept has))
-    (sealed_others-names setting (names_of setting client.bag) kind name client.drawn (gathered setting kind client) other)
-    (λ due. sealed_others-names setting (names_in setting (state_at client.nigori.states (nigori_hash setting)).own) kind name client.drawn (gathered setting kind client) other)
+    (held-HasKeys setting history outcomes client (sealed draws kind name client.drawn (gathered setting kind client))
+    (sealed_others setting history kind draws name client.drawn (gathered setting kind client) other (wanted_name-newest setting history outcomes kind client kept has))
+    (sealed_others-names setting (names_of setting client.bag) kind draws name client.drawn (gathered setting kind client) other)
+    (λ due. sealed_others-names setting (names_in setting (state_at client.nigori.states (nigori_hash setting)).own) kind draws name client.drawn (gathered setting kind client) other)
     has)
-gathered_of_other setting history outcomes kind client (Some batch) other kept has =
+gathered_of_other setting history outcomes number kind client (Some batch) other kept has =
     cond_both (opens setting client.bag batch) (batch_mailed setting client kind (side_of client kind) batch) client (λ (next : Client). HasKeys setting history outcomes next)
     (λ open_now. batch_mailed-HasKeys setting history outcomes client kind (side_of client kind) batch other has) (λ waits. has)
 
-gathering-HasKeys : (setting : Setting) (history : List (Entry Content)) (outcomes : List EventOutcome) (kind : Kind) (client : Client)
+gathering-HasKeys : (setting : Setting) (history : List (Entry Content)) (outcomes : List EventOutcome) (number : ℕ) (kind : Kind) (client : Client)
     → HistoryHasKeys setting history → HasKeys setting history outcomes client
-    → HasKeys setting history outcomes (gathering setting kind client (side_of client kind).pending)
-gathering-HasKeys setting history outcomes Nigori client kept has = gathered_of_profile setting history outcomes client client.nigori.pending has.pending has
-gathering-HasKeys setting history outcomes Preference client kept has =
-    gathered_of_other setting history outcomes Preference client client.preference.pending refl kept has
-gathering-HasKeys setting history outcomes Password client kept has =
-    gathered_of_other setting history outcomes Password client client.password.pending refl kept has
+    → HasKeys setting history outcomes (gathering setting number kind client (side_of client kind).pending)
+gathering-HasKeys setting history outcomes number Nigori client kept has = gathered_of_profile setting history outcomes number client client.nigori.pending has.pending has
+gathering-HasKeys setting history outcomes number Preference client kept has =
+    gathered_of_other setting history outcomes number Preference client client.preference.pending refl kept has
+gathering-HasKeys setting history outcomes number Password client kept has =
+    gathered_of_other setting history outcomes number Password client client.password.pending refl kept has
 
-pub gather_effect-HasKeys : (setting : Setting) (history : List (Entry Content)) (outcomes : List EventOutcome) (kind : Kind) (client : Client)
-    → HistoryHasKeys setting history → HasKeys setting history outcomes client → MayHaveKeys setting history outcomes (gather_effect setting kind client)
+pub gather_effect-HasKeys : (setting : Setting) (history : List (Entry Content)) (outcomes : List EventOutcome) (number : ℕ) (kind : Kind) (client : Client)
+    → HistoryHasKeys setting history → HasKeys setting history outcomes client → MayHaveKeys setting history outcomes (gather_effect setting number kind client)
 unfolding gather_effect
-gather_effect-HasKeys setting history outcomes kind client kept has =
+gather_effect-HasKeys setting history outcomes number kind client kept has =
     unless-MayHaveKeys setting history outcomes (is_gather_void kind client)
-    (plain_effect (gathering setting kind client (side_of client kind).pending) Done) record {
-      client = gathering-HasKeys setting history (Done ∷ outcomes) kind client kept (HasKeys-next setting history Done outcomes client has);
+    (plain_effect (gathering setting number kind client (side_of client kind).pending) Done) record {
+      client = gathering-HasKeys setting history (Done ∷ outcomes) number kind client kept (HasKeys-next setting history Done outcomes client has);
       sent = tt;
       gave = tt;
     }

@@ -161,7 +161,7 @@ stepped-WorldHasKeys setting (Cut client kept edit) world true_of before =
 stepped-WorldHasKeys setting (Turn client kind) world true_of before =
     acted-WorldHasKeys setting world client _ (turn_effect-HasKeys setting world.history world.outcomes kind) before
 stepped-WorldHasKeys setting (Gather client kind) world true_of before =
-    acted-WorldHasKeys setting world client _ (λ at has. gather_effect-HasKeys setting world.history world.outcomes kind at before.history has) before
+    acted-WorldHasKeys setting world client _ (λ at has. gather_effect-HasKeys setting world.history world.outcomes client kind at before.history has) before
 stepped-WorldHasKeys setting (Post client kind) world true_of before =
     acted-WorldHasKeys setting world client _ (post_effect-HasKeys setting world.history world.outcomes kind) before
 stepped-WorldHasKeys setting (Ask client) world true_of before =
@@ -195,9 +195,9 @@ new_client_at (suc clients) zero = refl
 new_client_at (suc clients) (suc place) = new_client_at clients place
 
 -- before any event there is no key
-opening-WorldHasKeys : (setting : Setting) (clients : ℕ) (passes : List (List ℕ)) → WorldHasKeys setting (opening clients passes)
+opening-WorldHasKeys : (setting : Setting) (clients seed : ℕ) (passes : List (List ℕ)) → WorldHasKeys setting (opening clients seed passes)
 unfolding outcome_at
-opening-WorldHasKeys setting clients passes = record {
+opening-WorldHasKeys setting clients seed passes = record {
   history = record { entities = tt; newest = refl; locks = tt; grows = λ version. refl; own_locks = λ version. refl };
   requests = λ event. tt;
   gives = λ event. tt;
@@ -205,10 +205,10 @@ opening-WorldHasKeys setting clients passes = record {
 }
 
 -- the world of a schedule keeps the profile's keys
-world_of-WorldHasKeys : (setting : Setting) (schedule : Schedule) → WorldHasKeys setting (run setting (opening schedule.clients schedule.passes) schedule.events)
+world_of-WorldHasKeys : (setting : Setting) (schedule : Schedule) → WorldHasKeys setting (run setting (opening schedule.clients schedule.seed schedule.passes) schedule.events)
 world_of-WorldHasKeys setting schedule =
-    run-WorldHasKeys setting (opening schedule.clients schedule.passes) schedule.events (opening-DeliveriesAreTrue schedule.clients schedule.passes)
-    (opening-WorldHasKeys setting schedule.clients schedule.passes)
+    run-WorldHasKeys setting (opening schedule.clients schedule.seed schedule.passes) schedule.events (opening-DeliveriesAreTrue schedule.clients schedule.seed schedule.passes)
+    (opening-WorldHasKeys setting schedule.clients schedule.seed schedule.passes)
 
 -- no key that seals a write is ever lost from the profile's keys
 pub world_of-NoLockIsLost : NoLockIsLost
@@ -229,6 +229,6 @@ current_client setting history outcomes client kept has knows =
 
 pub world_of-EveryCurrentClientHasTheKeys : EveryCurrentClientHasTheKeys
 world_of-EveryCurrentClientHasTheKeys setting valid schedule client knows =
-    let world : World = run setting (opening schedule.clients schedule.passes) schedule.events
+    let world : World = run setting (opening schedule.clients schedule.seed schedule.passes) schedule.events
     in let has = world_of-WorldHasKeys setting schedule
     in current_client setting world.history world.outcomes (client_at world.clients client) has.history (has.clients (client - 1)) knows

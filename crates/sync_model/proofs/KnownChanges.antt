@@ -72,14 +72,14 @@ crash_effect-facts history outcomes client facts = (restarted-ClientFacts histor
 
 -- a passphrase that a user chooses
 pub set_pass_effect-facts : (history : List (Entry Content)) (outcomes : List EventOutcome) (setting : Setting) (number : ℕ) (pass : List ℕ) (client : Client)
-    → ClientFacts history outcomes client → EffectFacts history outcomes (set_pass_effect setting number pass client)
+    → ClientFacts history outcomes client → EffectFacts history outcomes (set_pass_effect setting setting.pass_kind number pass client)
 unfolding set_pass_effect
-set_pass_effect-facts history outcomes setting number pass client facts = by (is_some (set_pass_refusal setting pass client))
+set_pass_effect-facts history outcomes setting number pass client facts = by (is_some (set_pass_refusal setting setting.pass_kind pass client))
   where
-    by : (refused : Bool) → EffectFacts history outcomes (cond refused None (Some (edit_taken setting number (SetNigori (pass_value setting client.bag pass))
+    by : (refused : Bool) → EffectFacts history outcomes (cond refused None (Some (edit_taken setting number (SetNigori (pass_value setting setting.pass_kind client.bag pass))
         (record client { bag = with_key setting client.bag (setting.pass_key pass) }))))
     by true = tt
-    by false = edit_taken-facts history outcomes setting number (SetNigori (pass_value setting client.bag pass))
+    by false = edit_taken-facts history outcomes setting number (SetNigori (pass_value setting setting.pass_kind client.bag pass))
         (record client { bag = with_key setting client.bag (setting.pass_key pass) })
         (alike-ClientFacts history outcomes client _ refl refl refl facts.awaits facts.sides)
 

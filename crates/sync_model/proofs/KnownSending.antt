@@ -12,7 +12,7 @@ use Rattle.sync_model.specs.declared.message.Request.{Request}
 use Rattle.sync_model.specs.Settings.{Setting}
 use Rattle.sync_model.specs.Sides.{Side, side_offered, mailed}
 use Rattle.sync_model.specs.Clients.{Client, side_of, with_side, wanted_name, plain_effect, opens, batch_mailed}
-use Rattle.sync_model.specs.Sending.{holding, asked_offers, gathered, gathering, is_gather_void, gather_effect, ask_of, is_busy, ask_effect, commit_of, offer_effect, lose_effect}
+use Rattle.sync_model.specs.Sending.{drawing, holding, asked_offers, gathered, gathering, is_gather_void, gather_effect, ask_of, is_busy, ask_effect, commit_of, offer_effect, lose_effect}
 use Rattle.sync_model.specs.Worlds.{outcome_at}
 use Rattle.sync_model.specs.Facts.{IsWhole, SideFacts, asked_mark, IsAwaiting, ClientFacts}
 use Rattle.sync_model.proofs.KnownSides.{noted-SideFacts, mailed-SideFacts}
@@ -29,28 +29,28 @@ batch_mailed-ClientFacts history outcomes setting client kind side batch is whol
     alike-ClientFacts history outcomes (with_side client kind (mailed side batch)) _ refl refl refl mailed_facts.awaits mailed_facts.sides
 
 -- a gather
-gathering-ClientFacts : (history : List (Entry Content)) (outcomes : List EventOutcome) (setting : Setting) (kind : Kind) (client : Client) (pending : Option Batch)
+gathering-ClientFacts : (history : List (Entry Content)) (outcomes : List EventOutcome) (setting : Setting) (number : ℕ) (kind : Kind) (client : Client) (pending : Option Batch)
     → IfSome pending (IsWhole history kind (side_of client kind).seen)
-    → ClientFacts history outcomes client → ClientFacts history outcomes (gathering setting kind client pending)
-gathering-ClientFacts history outcomes setting kind client (Some batch) whole facts = by (opens setting client.bag batch)
+    → ClientFacts history outcomes client → ClientFacts history outcomes (gathering setting number kind client pending)
+gathering-ClientFacts history outcomes setting number kind client (Some batch) whole facts = by (opens setting client.bag batch)
   where
     by : (opened : Bool) → ClientFacts history outcomes (cond opened (batch_mailed setting client kind (side_of client kind) batch) client)
     by true = batch_mailed-ClientFacts history outcomes setting client kind (side_of client kind) batch (facts.sides kind) whole (le_refl _) facts
     by false = facts
-gathering-ClientFacts history outcomes setting kind client None whole facts =
-    let holds : Client = holding kind (wanted_name setting client kind) (gathered setting kind client) client
+gathering-ClientFacts history outcomes setting number kind client None whole facts =
+    let holds : Client = holding (drawing setting number client) kind (wanted_name setting client kind) (gathered setting kind client) client
     in let held : ClientFacts history outcomes holds = alike-ClientFacts history outcomes client holds refl refl refl facts.awaits facts.sides
     in with_side-ClientFacts history outcomes holds kind (side_offered (side_of holds kind) (asked_offers setting kind client))
     (noted-SideFacts history kind (side_of holds kind) (asked_offers setting kind client) (held.sides kind)) (le_refl _) held
 
-pub gather_effect-facts : (history : List (Entry Content)) (outcomes : List EventOutcome) (setting : Setting) (kind : Kind) (client : Client)
-    → ClientFacts history outcomes client → EffectFacts history outcomes (gather_effect setting kind client)
+pub gather_effect-facts : (history : List (Entry Content)) (outcomes : List EventOutcome) (setting : Setting) (number : ℕ) (kind : Kind) (client : Client)
+    → ClientFacts history outcomes client → EffectFacts history outcomes (gather_effect setting number kind client)
 unfolding gather_effect
-gather_effect-facts history outcomes setting kind client facts = by (is_gather_void kind client)
+gather_effect-facts history outcomes setting number kind client facts = by (is_gather_void kind client)
   where
-    by : (void : Bool) → EffectFacts history outcomes (cond void None (Some (plain_effect (gathering setting kind client (side_of client kind).pending) Done)))
+    by : (void : Bool) → EffectFacts history outcomes (cond void None (Some (plain_effect (gathering setting number kind client (side_of client kind).pending) Done)))
     by true = tt
-    by false = done_facts history outcomes _ (gathering-ClientFacts history outcomes setting kind client (side_of client kind).pending (facts.sides kind).waits facts)
+    by false = done_facts history outcomes _ (gathering-ClientFacts history outcomes setting number kind client (side_of client kind).pending (facts.sides kind).waits facts)
 
 -- what a client asks for is what it has seen of each type
 asked_seen : (client : Client) (kind : Kind) → asked_mark kind (ask_of client).call ≡ (side_of client kind).seen

@@ -199,7 +199,7 @@ stepped-facts setting (Cut number kept edit) world facts =
 stepped-facts setting (Turn number kind) world facts =
     acted-facts world number _ (λ client. turn_effect-facts world.history world.outcomes setting kind client) facts
 stepped-facts setting (Gather number kind) world facts =
-    acted-facts world number _ (λ client. gather_effect-facts world.history world.outcomes setting kind client) facts
+    acted-facts world number _ (λ client. gather_effect-facts world.history world.outcomes setting number kind client) facts
 stepped-facts setting (Post number kind) world facts =
     acted-facts world number _ (λ client. post_effect-facts world.history world.outcomes setting kind client) facts
 stepped-facts setting (Ask number) world facts =
@@ -224,9 +224,9 @@ opening_client P new zero place = new
 opening_client P new (suc clients) zero = new
 opening_client P new (suc clients) (suc place) = opening_client P new clients place
 
-opening-facts : (clients : ℕ) (passes : List (List ℕ)) → WorldFacts (opening clients passes)
+opening-facts : (clients seed : ℕ) (passes : List (List ℕ)) → WorldFacts (opening clients seed passes)
 unfolding outcome_at
-opening-facts clients passes = record {
+opening-facts clients seed passes = record {
   outcomes = λ event. tt;
   clients = λ number. opening_client (λ client. ClientFacts [] [] client) (new_client-ClientFacts [] []) clients (number - 1);
 }
@@ -240,4 +240,4 @@ run-facts setting world (event ∷ events) facts =
 
 pub world_of-facts : (setting : Setting) (schedule : Schedule) → WorldFacts (world_of setting schedule)
 world_of-facts setting schedule =
-    run-facts setting (opening schedule.clients schedule.passes) schedule.events (opening-facts schedule.clients schedule.passes)
+    run-facts setting (opening schedule.clients schedule.seed schedule.passes) schedule.events (opening-facts schedule.clients schedule.seed schedule.passes)

@@ -18,6 +18,7 @@ pub mod KnownSending
 pub mod KnownReceiving
 pub mod TrueAcks
 pub mod WantedWrites
+pub mod EachEntry
 pub mod WholeBatches
 pub mod KnownWorlds
 pub mod Agreement

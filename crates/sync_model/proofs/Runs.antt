@@ -27,9 +27,9 @@ abbrev pub text_of : List String → List ℕ
 text_of [] = []
 text_of (line ∷ lines) = codes line ++ 10 ∷ text_of lines
 
--- the world after some events
+-- the world after some events; no draw shows in a report, so any seed serves
 abbrev pub after : ℕ → List (List ℕ) → List Event → World
-after clients passes events = run symbols (opening clients passes) events
+after clients passes events = run symbols (opening clients 0 passes) events
 
 -- what the server has
 abbrev pub entities : World → List ℕ

@@ -117,12 +117,12 @@ unfolding cut_effect
 cut_is setting event world number kept edit client = cut_short_is setting event world kept client (change_effect setting number edit client)
 
 set_pass_is : (setting : Setting) (number pass : ℕ) (world : World)
-    → EffectIs setting (SetPass number pass) world (set_pass_effect setting number (pass_at world.passes pass) (client_at world.clients number))
+    → EffectIs setting (SetPass number pass) world (set_pass_effect setting setting.pass_kind number (pass_at world.passes pass) (client_at world.clients number))
 unfolding set_pass_effect
 set_pass_is setting number pass world =
-    unless_is setting (SetPass number pass) world (is_some (set_pass_refusal setting (pass_at world.passes pass) (client_at world.clients number))) _
+    unless_is setting (SetPass number pass) world (is_some (set_pass_refusal setting setting.pass_kind (pass_at world.passes pass) (client_at world.clients number))) _
     record {
-      edit = SetNigori (pass_value setting (client_at world.clients number).bag (pass_at world.passes pass));
+      edit = SetNigori (pass_value setting setting.pass_kind (client_at world.clients number).bag (pass_at world.passes pass));
       of_kind = refl;
       user = refl;
       makes = refl;
@@ -138,9 +138,9 @@ give_pass_is : (setting : Setting) (event : Event) (world : World) (pass : List 
 unfolding give_pass_effect
 give_pass_is setting event world pass client = unless_is setting event world (is_some (give_pass_refusal setting pass client)) _ tt
 
-gather_is : (setting : Setting) (event : Event) (world : World) (kind : Kind) (client : Client) → EffectIs setting event world (gather_effect setting kind client)
+gather_is : (setting : Setting) (event : Event) (world : World) (number : ℕ) (kind : Kind) (client : Client) → EffectIs setting event world (gather_effect setting number kind client)
 unfolding gather_effect
-gather_is setting event world kind client = unless_is setting event world (is_gather_void kind client) _ tt
+gather_is setting event world number kind client = unless_is setting event world (is_gather_void kind client) _ tt
 
 ask_is : (setting : Setting) (event : Event) (world : World) (number next : ℕ) (client : Client) → EffectIs setting event world (ask_effect number next client)
 unfolding ask_effect
@@ -223,7 +223,7 @@ stepped_served setting (Cut number kept edit) world =
 stepped_served setting (Turn number kind) world =
     inl (acted_unserved setting (Turn number kind) world number _ (turn_is setting (Turn number kind) world kind (client_at world.clients number)))
 stepped_served setting (Gather number kind) world =
-    inl (acted_unserved setting (Gather number kind) world number _ (gather_is setting (Gather number kind) world kind (client_at world.clients number)))
+    inl (acted_unserved setting (Gather number kind) world number _ (gather_is setting (Gather number kind) world number kind (client_at world.clients number)))
 stepped_served setting (Post number kind) world =
     inl (acted_unserved setting (Post number kind) world number _ (post_is setting (Post number kind) world kind (client_at world.clients number)))
 stepped_served setting (Ask number) world =
@@ -237,7 +237,7 @@ stepped_served setting (Crash number) world =
 stepped_served setting (Deliver request) world = delivered_served setting (Deliver request) world request (outcome_at world.outcomes request) refl
 stepped_served setting (Answer delivery) world = inl (answered_unserved setting (Answer delivery) world (outcome_at world.outcomes delivery))
 stepped_served setting (SetPass number pass) world =
-    inl (acted_unserved setting (SetPass number pass) world number (set_pass_effect setting number (pass_at world.passes pass)) (set_pass_is setting number pass world))
+    inl (acted_unserved setting (SetPass number pass) world number (set_pass_effect setting setting.pass_kind number (pass_at world.passes pass)) (set_pass_is setting number pass world))
 stepped_served setting (GivePass number pass) world =
     inl (acted_unserved setting (GivePass number pass) world number _
     (give_pass_is setting (GivePass number pass) world (pass_at world.passes pass) (client_at world.clients number)))

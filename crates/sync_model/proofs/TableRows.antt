@@ -93,7 +93,7 @@ merged_lines world = fates world 2 ++ side_line 2 Preference None (client_at wor
 -- under a rule that merges, the list of both is to be sent
 abbrev ListsMerge : Type 0
 ListsMerge =
-    merged_lines (run (with_rule merged) (opening 2 []) both_lists)
+    merged_lines (run (with_rule merged) (opening 2 0 []) both_lists)
     ≡ text_of ("fate 2 preference 1 merged 1 C6" ∷ "side 2 preference mark 1 due 1 reseal 0 pending 0 mailbox 0"
     ∷ "value 2 preference list.x known 1 list.x [\"a\",\"b\"]" ∷ "fate 2 preference 1 merged 1 C6" ∷ [])
 

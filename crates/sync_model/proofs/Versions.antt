@@ -127,4 +127,4 @@ run-IsBased setting world [] based = based
 run-IsBased setting world (event ∷ events) based = run-IsBased setting (stepped setting event world) events (stepped-IsBased setting event world based)
 
 pub world_of-IsBased : EveryWriteIsBased
-world_of-IsBased setting schedule = run-IsBased setting (opening schedule.clients schedule.passes) schedule.events tt
+world_of-IsBased setting schedule = run-IsBased setting (opening schedule.clients schedule.seed schedule.passes) schedule.events tt

@@ -8,6 +8,7 @@ use Rattle.key_derivation.specs.declared.NigoriKey.{NigoriKey}
 use Rattle.sync_values.specs.declared.edit.Edit.{Edit}
 use Rattle.sync_values.specs.declared.edit.Edit.TheVariants.{SetNigori}
 use Rattle.sync_values.specs.declared.value.NigoriValue.{NigoriValue}
+use Rattle.sync_values.specs.declared.value.PassKind.{PassKind}
 use Rattle.sync_values.specs.declared.value.Value.{Value}
 use Rattle.sync_model.specs.declared.event.EventOutcome.TheVariants.{Done, Edited}
 use Rattle.sync_model.specs.declared.fate.Fate.TheVariants.{Followed}
@@ -102,30 +103,30 @@ asked_for (Some batch) = find (λ update. is_some update.lock) batch.updates
 abbrev pub asked_name : Update → List ℕ
 asked_name update = unwrap_or update.lock []
 
--- a profile's keys under a new passphrase: it locks all keys of the bag, its own among them
-abbrev pub pass_value : Setting → List NigoriKey → List ℕ → NigoriValue
-pass_value setting bag pass = record {
+-- a profile's keys under a new passphrase of this kind: it locks all keys of the bag, its own among them
+abbrev pub pass_value : Setting → PassKind → List NigoriKey → List ℕ → NigoriValue
+pass_value setting kind bag pass = record {
   lock = setting.key_name (setting.pass_key pass);
   keys = with_key setting bag (setting.pass_key pass);
-  pass_kind = setting.pass_kind;
+  pass_kind = kind;
 }
 
 -- the client's own keys are not yet on the server
 abbrev pub unsynced : Option ℕ → Option PassRefusal
 unsynced due = option_map (λ number. Unsynced number) due
 
--- why a passphrase that a user chooses is refused, if it is: the first cause that holds
-abbrev pub set_pass_refusal : Setting → List ℕ → Client → Option PassRefusal
-set_pass_refusal setting pass client =
+-- why a passphrase of this kind that a user chooses is refused, if it is: the first cause that holds
+abbrev pub set_pass_refusal : Setting → PassKind → List ℕ → Client → Option PassRefusal
+set_pass_refusal setting kind pass client =
     option_or (option_map (λ update. NeedsKey (asked_name update)) (asked_for client.nigori.pending))
     (option_or (unsynced (state_at client.nigori.states (nigori_hash setting)).due)
-    (option_map (λ refusal. EditRefused refusal) (edit_refusal setting client (SetNigori (pass_value setting client.bag pass)))))
+    (option_map (λ refusal. EditRefused refusal) (edit_refusal setting client (SetNigori (pass_value setting kind client.bag pass)))))
 
--- the user of a client chooses a passphrase: its key joins the bag, and an edit sets the profile's keys
-unfoldable pub set_pass_effect : Setting → ℕ → List ℕ → Client → Option Effect
-set_pass_effect setting number pass client =
-    if is_some (set_pass_refusal setting pass client) then None
-    else Some (edit_taken setting number (SetNigori (pass_value setting client.bag pass))
+-- the user of a client chooses a passphrase of this kind: its key joins the bag, and an edit sets the profile's keys
+unfoldable pub set_pass_effect : Setting → PassKind → ℕ → List ℕ → Client → Option Effect
+set_pass_effect setting kind number pass client =
+    if is_some (set_pass_refusal setting kind pass client) then None
+    else Some (edit_taken setting number (SetNigori (pass_value setting kind client.bag pass))
     (record client { bag = with_key setting client.bag (setting.pass_key pass) }))
 
 -- why a passphrase that a user gives is refused where an update waits for one, if it is

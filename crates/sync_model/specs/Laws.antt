@@ -114,7 +114,7 @@ EveryWriteHasOneAuthor = (setting : Setting) (schedule : Schedule) → WritesHav
 
 -- the world of a schedule when only these first of its events have come
 abbrev pub world_before : Setting → Schedule → List Event → World
-world_before setting schedule before = run setting (opening schedule.clients schedule.passes) before
+world_before setting schedule before = run setting (opening schedule.clients schedule.seed schedule.passes) before
 
 -- the client whose user an event is of, or 0 where it is of none
 abbrev pub user_of : Event → ℕ
@@ -128,7 +128,7 @@ abbrev pub edit_by : Setting → World → Event → Option Edit
 edit_by setting world (EditEvent client edit) = Some edit
 edit_by setting world (Cut client true edit) = Some edit
 edit_by setting world (SetPass client pass) =
-    Some (SetNigori (pass_value setting (client_at world.clients client).bag (pass_at world.passes pass)))
+    Some (SetNigori (pass_value setting setting.pass_kind (client_at world.clients client).bag (pass_at world.passes pass)))
 edit_by setting world _ = None
 
 -- what came of the last event

@@ -1,6 +1,7 @@
 -- What a client sends: how it gathers and seals entries, and the requests that it makes.
 use Rattle.std.specs.Prelude.{ℕ, ◌+◌, ◌-◌, Bool, false, ◌&&◌, ◌||◌, ◌==◌, not, if◌then◌else◌, List, [], ◌∷◌, ◌++◌, length, Option, Some, None, is_some}
 use Rattle.std.specs.List.{list_any, list_all}
+use Rattle.std.specs.Option.{option_map}
 use Rattle.client_tags.specs.declared.Kind.{Kind}
 use Rattle.client_tags.specs.declared.Kind.TheVariants.{Nigori, Preference, Password}
 use Rattle.key_derivation.specs.declared.NigoriKey.{NigoriKey}
@@ -10,12 +11,13 @@ use Rattle.sync_model.specs.declared.event.EventOutcome.TheVariants.{Done, Reque
 use Rattle.sync_model.specs.declared.message.Batch.{Batch}
 use Rattle.sync_model.specs.declared.message.Call.TheVariants.{Commit, Updates as AskUpdates}
 use Rattle.sync_model.specs.declared.message.Content.{Content}
+use Rattle.sync_model.specs.declared.message.Draw.{Draw}
 use Rattle.sync_model.specs.declared.message.Entry.{Entry}
 use Rattle.sync_model.specs.declared.message.Marker.{Marker}
 use Rattle.sync_model.specs.declared.message.Offer.{Offer}
 use Rattle.sync_model.specs.declared.message.Request.{Request}
 use Rattle.sync_model.specs.Values.{same_kind, is_absent}
-use Rattle.sync_model.specs.Settings.{Setting}
+use Rattle.sync_model.specs.Settings.{Setting, key_named}
 use Rattle.sync_model.specs.Offers.{offers_of}
 use Rattle.sync_model.specs.Sides.{side_offered}
 use Rattle.sync_model.specs.Clients.{Client, Effect, side_of, with_side, plain_effect, nigori_base, needs_default, default_name, wanted_name, opens_lock, opens, batch_mailed}
@@ -40,10 +42,19 @@ lock_for Nigori name value = own_lock value
 lock_for Preference name value = if is_absent value then None else name
 lock_for Password name value = if is_absent value then None else name
 
--- the number of the draw that a value is sealed with, if it is sealed
-abbrev pub draw_of : Option (List ℕ) → ℕ → Option ℕ
-draw_of None drawn = None
-draw_of (Some name) drawn = Some drawn
+-- How a client draws: what seals a value under the key of a name once so many draws were made.
+abbrev pub Draws : Type 0
+Draws = List ℕ → ℕ → Option Draw
+
+-- a client of this number draws by the keys of its bag
+abbrev pub drawing : Setting → ℕ → Client → Draws
+drawing setting number client name drawn =
+    option_map (λ key. record { key = key; client = number; number = drawn }) (key_named setting client.bag name)
+
+-- the draw that a value is sealed with, if it is sealed
+abbrev pub draw_of : Draws → Option (List ℕ) → ℕ → Option Draw
+draw_of draws None drawn = None
+draw_of draws (Some name) drawn = draws name drawn
 
 -- how many draws were made once a value is sealed, if it is
 abbrev pub drawn_after : Option (List ℕ) → ℕ → ℕ
@@ -51,19 +62,19 @@ drawn_after None drawn = drawn
 drawn_after (Some name) drawn = drawn + 1
 
 -- an offer of a type as an entry of a commit
-abbrev pub entry_of : Kind → Option (List ℕ) → ℕ → Offer → Entry Content
-entry_of kind lock drawn offer = record {
+abbrev pub entry_of : Draws → Kind → Option (List ℕ) → ℕ → Offer → Entry Content
+entry_of draws kind lock drawn offer = record {
   key = record { kind = kind; hash = offer.hash };
   version = offer.known;
-  content = record { value = offer.value; number = offer.number; lock = lock; draw = draw_of lock drawn };
+  content = record { value = offer.value; number = offer.number; lock = lock; draw = draw_of draws lock drawn };
 }
 
 -- some offers of a type as entries, each sealed with the next draw where a key seals it
-unfoldable pub sealed : Kind → Option (List ℕ) → ℕ → List Offer → List (Entry Content)
-sealed kind name drawn [] = []
-sealed kind name drawn (offer ∷ offers) =
-    entry_of kind (lock_for kind name offer.value) drawn offer
-    ∷ sealed kind name (drawn_after (lock_for kind name offer.value) drawn) offers
+unfoldable pub sealed : Draws → Kind → Option (List ℕ) → ℕ → List Offer → List (Entry Content)
+sealed draws kind name drawn [] = []
+sealed draws kind name drawn (offer ∷ offers) =
+    entry_of draws kind (lock_for kind name offer.value) drawn offer
+    ∷ sealed draws kind name (drawn_after (lock_for kind name offer.value) drawn) offers
 
 -- how many draws were made once some offers of a type are sealed
 unfoldable pub drawn_for : Kind → Option (List ℕ) → ℕ → List Offer → ℕ
@@ -96,9 +107,9 @@ abbrev pub gathered : Setting → Kind → Client → List Offer
 gathered setting kind client = offers_if_had setting kind client.bag (asked_offers setting kind client)
 
 -- some offers of a type are sealed and held
-abbrev pub holding : Kind → Option (List ℕ) → List Offer → Client → Client
-holding kind name offers client = record client {
-  held = client.held ++ sealed kind name client.drawn offers;
+abbrev pub holding : Draws → Kind → Option (List ℕ) → List Offer → Client → Client
+holding draws kind name offers client = record client {
+  held = client.held ++ sealed draws kind name client.drawn offers;
   drawn = drawn_for kind name client.drawn offers;
 }
 
@@ -107,12 +118,12 @@ abbrev pub noting : Kind → List Offer → Client → Client
 noting kind offers client = with_side client kind (side_offered (side_of client kind) offers)
 
 -- a gather of a type: a batch that waits for a key is mailed if it opens now, and nothing is held beside it
-abbrev pub gathering : Setting → Kind → Client → Option Batch → Client
-gathering setting kind client (Some batch) =
+abbrev pub gathering : Setting → ℕ → Kind → Client → Option Batch → Client
+gathering setting number kind client (Some batch) =
     if opens setting client.bag batch then batch_mailed setting client kind (side_of client kind) batch else client
-gathering setting kind client None =
+gathering setting number kind client None =
     noting kind (asked_offers setting kind client)
-    (holding kind (wanted_name setting client kind) (gathered setting kind client) client)
+    (holding (drawing setting number client) kind (wanted_name setting client kind) (gathered setting kind client) client)
 
 -- a gather can't happen while a request is made, a letter of the type waits, or entries of the type are held
 abbrev pub is_gather_void : Kind → Client → Bool
@@ -120,10 +131,10 @@ is_gather_void kind client =
     is_some client.outstanding || is_some (side_of client kind).letter || holds_kind kind client.held
 
 -- what is to be sent of a type joins what is held
-unfoldable pub gather_effect : Setting → Kind → Client → Option Effect
-gather_effect setting kind client =
+unfoldable pub gather_effect : Setting → ℕ → Kind → Client → Option Effect
+gather_effect setting number kind client =
     if is_gather_void kind client then None
-    else Some (plain_effect (gathering setting kind client (side_of client kind).pending) Done)
+    else Some (plain_effect (gathering setting number kind client (side_of client kind).pending) Done)
 
 -- what the last reply says is not yet all posted
 abbrev pub has_letter : Client → Bool

@@ -1,5 +1,6 @@
 -- What a run is given beside its events, and what each type's rule decides by it.
-use Rattle.std.specs.Prelude.{◌≡◌, ℕ, Bool, if◌then◌else◌, IsTrue, List, [], ◌++◌, ◌∷◌, map, ◌⊎◌, int_lt}
+use Rattle.std.specs.Prelude.{◌≡◌, ℕ, Bool, if◌then◌else◌, IsTrue, List, [], ◌++◌, ◌∷◌, map, find, Option, ◌⊎◌, int_lt}
+use Rattle.std.specs.Str.{bytes_eq}
 use Rattle.client_tags.specs.declared.Kind.{Kind}
 use Rattle.client_tags.specs.declared.Kind.TheVariants.{Nigori, Preference, Password}
 use Rattle.client_tags.specs.Tags.{nigori_tag}
@@ -79,6 +80,10 @@ names_of setting keys = map setting.key_name keys
 -- a bag of keys has the one of a name
 abbrev pub has_key : Setting → List NigoriKey → List ℕ → Bool
 has_key setting bag name = has_name (names_of setting bag) name
+
+-- the key of a name in a bag, if it has one
+abbrev pub key_named : Setting → List NigoriKey → List ℕ → Option NigoriKey
+key_named setting bag name = find (λ key. bytes_eq name (setting.key_name key)) bag
 
 -- a bag with a further key; one that it has by name joins no more
 abbrev pub with_key : Setting → List NigoriKey → NigoriKey → List NigoriKey

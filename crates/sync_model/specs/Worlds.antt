@@ -22,21 +22,23 @@ use Rattle.sync_model.specs.Receiving.{answer_effect, post_effect, turn_effect}
 use Rattle.sync_model.specs.Changes.{change_effect, cut_effect, crash_effect, set_pass_effect, give_pass_effect}
 
 -- The history and the outcomes of the events have the newest first, the clients and the passphrases are in
--- the order of their numbers, and the settlements in that of the events.
+-- the order of their numbers, and the settlements in that of the events. The seed is that of all random draws.
 pub record World : Type 0 where
   pub history : List (Entry Content)
   pub outcomes : List EventOutcome
   pub clients : List Client
   pub settlements : List Settlement
+  pub seed : ℕ
   pub passes : List (List ℕ)
 
--- the world before any event, with so many clients and these passphrases
-abbrev pub opening : ℕ → List (List ℕ) → World
-opening clients passes = record {
+-- the world before any event, with so many clients, this seed and these passphrases
+abbrev pub opening : ℕ → ℕ → List (List ℕ) → World
+opening clients seed passes = record {
   history = [];
   outcomes = [];
   clients = replicate clients new_client;
   settlements = [];
+  seed = seed;
   passes = passes;
 }
 
@@ -76,6 +78,7 @@ affected world number (Some effect) = record {
   outcomes = effect.outcome ∷ world.outcomes;
   clients = with_client_at world.clients (number - 1) effect.client;
   settlements = world.settlements ++ map (settlement_of number effect.kind) effect.notes;
+  seed = world.seed;
   passes = world.passes;
 }
 
@@ -127,7 +130,7 @@ unfoldable pub stepped : Setting → Event → World → World
 stepped setting (Edit client edit) world = acted world client (change_effect setting client edit)
 stepped setting (Cut client kept edit) world = acted world client (cut_effect setting client kept edit)
 stepped setting (Turn client kind) world = acted world client (turn_effect setting kind)
-stepped setting (Gather client kind) world = acted world client (gather_effect setting kind)
+stepped setting (Gather client kind) world = acted world client (gather_effect setting client kind)
 stepped setting (Post client kind) world = acted world client (post_effect setting kind)
 stepped setting (Ask client) world = acted world client (ask_effect client (next_event world))
 stepped setting (Offer client) world = acted world client (offer_effect client (next_event world))
@@ -136,7 +139,7 @@ stepped setting (Crash client) world = acted world client crash_effect
 stepped setting (Deliver event) world = delivered world event (outcome_at world.outcomes event)
 stepped setting (Answer event) world = answered world (outcome_at world.outcomes event)
 stepped setting (SetPass client pass) world =
-    acted world client (set_pass_effect setting client (pass_at world.passes pass))
+    acted world client (set_pass_effect setting setting.pass_kind client (pass_at world.passes pass))
 stepped setting (GivePass client pass) world =
     acted world client (give_pass_effect setting (pass_at world.passes pass))
 
@@ -147,4 +150,4 @@ run setting world (event ∷ events) = run setting (stepped setting event world)
 
 -- the world after all events of a schedule
 abbrev pub world_of : Setting → Schedule → World
-world_of setting schedule = run setting (opening schedule.clients schedule.passes) schedule.events
+world_of setting schedule = run setting (opening schedule.clients schedule.seed schedule.passes) schedule.events

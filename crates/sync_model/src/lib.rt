@@ -18,8 +18,8 @@ pub use laws::{
     every_own_echo_is_known, every_world_is_lawful, every_write_is_based, no_key_is_lost,
 };
 pub use message::{
-    Ack, Answer, Batch, Call, Content, Entry, Key, Marker, Offer, Reply, Request, Task, Update,
-    Updates, Verdict,
+    Ack, Answer, Batch, Call, Content, Draw, Entry, Key, Marker, Offer, Reply, Request, Task,
+    Update, Updates, Verdict,
 };
 pub use refusal::{EditRefusal, PassRefusal};
 pub use state::{KeyState, Offered, Wanted};

@@ -1,11 +1,13 @@
+use client_tags::TagHash;
+use key_derivation::NigoriKey;
 use sync_values::{Kind, Value};
 use wire_fields::{List, Octets};
 
 /// What names an entity: its type, and the hash of its client tag.
-#[derive(Debug, Drop)]
+#[derive(Clone, Copy, Debug, PartialEq, Eq)]
 pub struct Key {
     pub kind: Kind,
-    pub hash: Octets,
+    pub hash: TagHash,
 }
 
 /// An entity in a commit, and as the server then keeps it: the version that it is based on, 0 for none,
@@ -17,14 +19,23 @@ pub struct Entry<C> {
     pub content: C,
 }
 
+/// A random draw that seals a value: the key that seals it, the number of the client that drew, and how many
+/// draws that client had made before.
+#[derive(Clone, Copy, Debug, PartialEq, Eq)]
+pub struct Draw {
+    pub key: NigoriKey,
+    pub client: u32,
+    pub number: u64,
+}
+
 /// What a client sends of an edit: the value, the edit's number, and where it is sealed the name of the key
-/// that seals it and the number of the random draw that it is sealed with.
+/// that seals it and the draw that it is sealed with.
 #[derive(Debug, Drop)]
 pub struct Content {
     pub value: Value,
     pub number: u64,
     pub lock: Option<Octets>,
-    pub draw: Option<u64>,
+    pub draw: Option<Draw>,
 }
 
 /// The version up to which a client has seen a type's writes, or has them all with a reply.
@@ -92,7 +103,7 @@ pub struct Reply<C> {
 /// last edit.
 #[derive(Debug, Drop)]
 pub struct Offer {
-    pub hash: Octets,
+    pub hash: TagHash,
     pub known: u64,
     pub value: Value,
     pub number: u64,
@@ -101,7 +112,7 @@ pub struct Offer {
 /// A write of a key that is new to a client, with the name of the key that seals it.
 #[derive(Debug, Drop)]
 pub struct Update {
-    pub hash: Octets,
+    pub hash: TagHash,
     pub version: u64,
     pub value: Value,
     pub lock: Option<Octets>,
@@ -110,7 +121,7 @@ pub struct Update {
 /// The server's word that an edit of a key is stored, as the write of this version.
 #[derive(Debug, Drop)]
 pub struct Ack {
-    pub hash: Octets,
+    pub hash: TagHash,
     pub version: u64,
     pub value: Value,
     pub number: u64,

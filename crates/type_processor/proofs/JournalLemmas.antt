@@ -49,23 +49,23 @@ tracker_found hash (Some state) tracker same = sym (ap (λ (key : Option (List �
 
 -- a key that was new is taken out again
 pub back_to_none : (change : Change) (before after new : States) → change.before ≡ None
-    → new ≡ remove_entry (is_at (slice_cmp nat_cmp change.hash.bytes)) after → IsChange change before after → new ≡ before
+    → new ≡ remove_entry (is_at (slice_cmp nat_cmp change.hash)) after → IsChange change before after → new ≡ before
 back_to_none change before after new none is_new change_is =
-    is_new ∙ ap (remove_entry (is_at (slice_cmp nat_cmp change.hash.bytes))) change_is.put
-    ∙ undo_new (slice_cmp nat_cmp) before change.hash.bytes change_is.state (ties_itself change.hash.bytes)
-    (no_tracker change.hash.bytes (found_at before change.hash.bytes) (ap (option_map key_of) (sym none) ∙ change_is.before_was))
+    is_new ∙ ap (remove_entry (is_at (slice_cmp nat_cmp change.hash))) change_is.put
+    ∙ undo_new (slice_cmp nat_cmp) before change.hash change_is.state (ties_itself change.hash)
+    (no_tracker change.hash (found_at before change.hash) (ap (option_map key_of) (sym none) ∙ change_is.before_was))
 
 -- a key that had a tracker has it again
 pub back_to_some : (change : Change) (before after new : States) (tracker : Tracked) → change.before ≡ Some tracker
     → (IsTrue (has_state after tracker.hash) → new ≡ with_state after tracker.hash tracker.state) → IsChange change before after → new ≡ before
 back_to_some change before after new tracker some is_new change_is =
-    let told : the_key tracker ≡ key_at before change.hash.bytes = ap (option_map key_of) (sym some) ∙ change_is.before_was in
-    let hash : tracker.hash ≡ change.hash.bytes = tracker_hash change.hash.bytes (found_at before change.hash.bytes) tracker told in
-    let found : found_at before change.hash.bytes ≡ Some tracker.state = tracker_found change.hash.bytes (found_at before change.hash.bytes) tracker told in
-    is_new (rw (hash, change_is.put) (has_put before change.hash.bytes change_is.state))
+    let told : the_key tracker ≡ key_at before change.hash = ap (option_map key_of) (sym some) ∙ change_is.before_was in
+    let hash : tracker.hash ≡ change.hash = tracker_hash change.hash (found_at before change.hash) tracker told in
+    let found : found_at before change.hash ≡ Some tracker.state = tracker_found change.hash (found_at before change.hash) tracker told in
+    is_new (rw (hash, change_is.put) (has_put before change.hash change_is.state))
     ∙ ap (λ (key : List ℕ). with_state after key tracker.state) hash
-    ∙ ap (λ (states : States). with_state states change.hash.bytes tracker.state) change_is.put
-    ∙ undo_kept (slice_cmp nat_cmp) before change.hash.bytes change_is.state tracker.state
+    ∙ ap (λ (states : States). with_state states change.hash tracker.state) change_is.put
+    ∙ undo_kept (slice_cmp nat_cmp) before change.hash change_is.state tracker.state
     (ap hashes_of (sym change_is.put) ∙ change_is.kept (rw some refl)) found
 
 -- one change less leads back

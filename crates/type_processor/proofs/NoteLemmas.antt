@@ -7,7 +7,7 @@ use Rattle.sync_model.specs.declared.message.Offer.{Offer}
 use Rattle.sync_model.specs.declared.state.KeyState.{KeyState}
 use Rattle.sync_model.specs.KeyStates.{noted}
 use Rattle.sync_model.specs.Sides.{States, state_at, with_state, after_offer, after_offers}
-use Rattle.type_processor.specs.Fits.{IsOwnOffer, OffersHaveHashes}
+use Rattle.type_processor.specs.Fits.{IsOwnOffer}
 use Rattle.type_processor.specs.Keyed.{key_of}
 use Rattle.type_processor.proofs.ChangedKeys.{state_put, put_at}
 
@@ -51,10 +51,6 @@ all_own_kept old new offer offers is own =
     subst (λ (states : States). AllByRecursion (IsOwnOffer states) offers) (sym is) (all_own_after old offer offers own)
 
 -- one offer less is to be kept
-pub rest_have_hashes : (left rest : List Offer) (offer : Offer) → left ≡ offer ∷ rest → OffersHaveHashes left → OffersHaveHashes rest
-rest_have_hashes left rest offer is have =
-    let both : OffersHaveHashes (offer ∷ rest) = subst OffersHaveHashes is have in both.1
-
 pub rest_are_own : (old new : States) (left rest : List Offer) (offer : Offer) → left ≡ offer ∷ rest → new ≡ after_offer old offer
     → AllByRecursion (IsOwnOffer old) left → AllByRecursion (IsOwnOffer new) rest
 rest_are_own old new left rest offer is new_is own =

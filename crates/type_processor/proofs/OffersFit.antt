@@ -3,6 +3,7 @@ use Rattle.std.proofs.Common.{◌≡◌, ℕ, zero, suc, Bool, true, false, cond
 use Rattle.std.specs.Prelude.{nat_le, unwrap_or, IfSome}
 use Rattle.std.specs.List.{AllByRecursion}
 use Rattle.client_tags.specs.declared.Kind.{Kind}
+use Rattle.client_tags.specs.Hashes.{IsHash}
 use Rattle.sync_model.specs.declared.message.Offer.{Offer}
 use Rattle.sync_model.specs.declared.state.KeyState.{KeyState}
 use Rattle.sync_model.specs.KeyStates.{new_state, needs_seal}
@@ -69,15 +70,24 @@ module _ (P : Offer → Type 0) where
       first_are room (due_offers states ++ reseal_offers name states)
       (both_are (due_offers states) (reseal_offers name states) (all_due_are states [] are tt) (all_reseals_are name states [] are tt))
 
-fit_by : (kind : Kind) (last : ℕ) (states : States) → AreStatesOf kind last states → AllByRecursion (Offers (IsOfferOf kind)) states
+-- an offer whose hash has twenty bytes is of the type
+abbrev FitsWithHash : Kind → Offer → Type 0
+FitsWithHash kind offer = IsHash offer.hash → IsOfferOf kind offer
+
+fit_by : (kind : Kind) (last : ℕ) (states : States) → AreStatesOf kind last states → AllByRecursion (Offers (FitsWithHash kind)) states
 fit_by kind last [] are = tt
 fit_by kind last (key ∷ states) are =
-    ((record { hash = are.0.hash; known = are.0.known; value = are.0.own }, are.0.due), fit_by kind last states are.1)
+    ((λ hash. record { hash = hash; known = are.0.known; value = are.0.own }, are.0.due), fit_by kind last states are.1)
+
+with_hashes : (kind : Kind) (offers : List Offer) → AllByRecursion (FitsWithHash kind) offers → OffersHaveHashes offers → AllByRecursion (IsOfferOf kind) offers
+with_hashes kind [] fit hashes = tt
+with_hashes kind (offer ∷ offers) fit hashes = (fit.0 hashes.0, with_hashes kind offers fit.1 hashes.1)
 
 -- what is offered of states of a type is of the type
 pub offers_are : (kind : Kind) (last : ℕ) (name : Option (List ℕ)) (room : ℕ) (states : States) → AreStatesOf kind last states
-    → AllByRecursion (IsOfferOf kind) (offers_of name room states)
-offers_are kind last name room states are = all_offers_are (IsOfferOf kind) name room states (fit_by kind last states are)
+    → OffersHaveHashes (offers_of name room states) → AllByRecursion (IsOfferOf kind) (offers_of name room states)
+offers_are kind last name room states are =
+    with_hashes kind (offers_of name room states) (all_offers_are (FitsWithHash kind) name room states (fit_by kind last states are))
 
 found_state : (states : States) (key : List ℕ × KeyState) → found_at states key.0 ≡ Some key.1 → key.1 ≡ state_at states key.0
 found_state states key found = sym (ap (λ (state : Option KeyState). unwrap_or state new_state) found)
@@ -101,8 +111,3 @@ pub offers_are_own : (kind : Kind) (last : ℕ) (name : Option (List ℕ)) (room
     → HaveOwnHashes states → AllByRecursion (IsOwnOffer states) (offers_of name room states)
 offers_are_own kind last name room states are found =
     all_offers_are (IsOwnOffer states) name room states (own_by kind last states states are found)
-
--- the hashes of offers of a type
-pub offer_hashes : (kind : Kind) (offers : List Offer) → AllByRecursion (IsOfferOf kind) offers → OffersHaveHashes offers
-offer_hashes kind [] are = tt
-offer_hashes kind (offer ∷ offers) are = (are.0.hash, offer_hashes kind offers are.1)

@@ -9,7 +9,6 @@ use Rattle.std.specs.Ordering.{nat_cmp, match_ordering}
 use Rattle.std.specs.declared.cmp.Ordering.{Ordering}
 use Rattle.std.specs.declared.cmp.Ordering.TheVariants.{Less, Equal, Greater}
 use Rattle.client_tags.specs.declared.Kind.{Kind}
-use Rattle.client_tags.specs.Hashes.{IsHash}
 use Rattle.sync_values.specs.declared.edit.Edit.{Edit}
 use Rattle.sync_values.specs.declared.edit.Edit.TheVariants.{SetPreference, NewerPreference, DeletePreference, SetPassword, NewerPassword, DeletePassword, SetNigori}
 use Rattle.sync_values.specs.declared.value.Value.{Value}
@@ -30,35 +29,35 @@ use Rattle.sync_model.specs.KeyStates.{new_state, is_echo, is_old, accepted, set
 use Rattle.sync_model.specs.Sides.{States, state_at, with_state, after_update, after_updates, after_ack, after_acks, after_offer, after_offers}
 use Rattle.sync_model.specs.Values.{same_value, is_absent, is_value_of}
 use Rattle.conflict_rules.specs.Rules.{KeepsEachType}
-use Rattle.type_processor.specs.Fits.{may_have, IsUpdateOf, IsAckOf, IsTaskOf, IsStateOf, AreStatesOf, HaveHashes, AcksHaveHashes, OffersHaveHashes, TaskHasHashes}
+use Rattle.type_processor.specs.Fits.{may_have, IsUpdateOf, IsAckOf, IsTaskOf, IsStateOf, AreStatesOf}
 use Rattle.type_processor.specs.Turns.{states_after}
 
-new_is : (kind : Kind) (last : ℕ) (hash : List ℕ) → IsHash hash → IsStateOf kind last (hash, new_state)
-new_is kind last hash is = record { hash = is; known = omega arith; base = refl; own = refl; edit = omega arith; due = tt }
+new_is : (kind : Kind) (last : ℕ) (hash : List ℕ) → IsStateOf kind last (hash, new_state)
+new_is kind last hash = record { known = omega arith; base = refl; own = refl; edit = omega arith; due = tt }
 
 -- the same of another hash
-at_hash : (kind : Kind) (last : ℕ) (hash : List ℕ) (key : List ℕ × KeyState) → IsHash hash → IsStateOf kind last key → IsStateOf kind last (hash, key.1)
-at_hash kind last hash key is state =
-    record { hash = is; known = state.known; base = state.base; own = state.own; edit = state.edit; due = state.due }
+at_hash : (kind : Kind) (last : ℕ) (hash : List ℕ) (key : List ℕ × KeyState) → IsStateOf kind last key → IsStateOf kind last (hash, key.1)
+at_hash kind last hash key state =
+    record { known = state.known; base = state.base; own = state.own; edit = state.edit; due = state.due }
 
-by_tie : (kind : Kind) (last : ℕ) (hash : List ℕ) (e : List ℕ × KeyState) (found : Option KeyState) (tie : Bool) → IsHash hash
+by_tie : (kind : Kind) (last : ℕ) (hash : List ℕ) (e : List ℕ × KeyState) (found : Option KeyState) (tie : Bool)
     → IsStateOf kind last e → IsStateOf kind last (hash, unwrap_or found new_state)
     → IsStateOf kind last (hash, unwrap_or (cond tie (Some e.1) found) new_state)
-by_tie kind last hash e found true is own rest = at_hash kind last hash e is own
-by_tie kind last hash e found false is own rest = rest
+by_tie kind last hash e found true own rest = at_hash kind last hash e own
+by_tie kind last hash e found false own rest = rest
 
 -- the state of a key, or a new one
-pub state_is : (kind : Kind) (last : ℕ) (hash : List ℕ) (states : States) → IsHash hash → AreStatesOf kind last states
+pub state_is : (kind : Kind) (last : ℕ) (hash : List ℕ) (states : States) → AreStatesOf kind last states
     → IsStateOf kind last (hash, state_at states hash)
-state_is kind last hash [] is are = new_is kind last hash is
-state_is kind last hash (e ∷ es) is are =
-    by_tie kind last hash e (lookup (is_at (slice_cmp nat_cmp hash)) es) (is_at (slice_cmp nat_cmp hash) e.0) is are.0 (state_is kind last hash es is are.1)
+state_is kind last hash [] are = new_is kind last hash
+state_is kind last hash (e ∷ es) are =
+    by_tie kind last hash e (lookup (is_at (slice_cmp nat_cmp hash)) es) (is_at (slice_cmp nat_cmp hash) e.0) are.0 (state_is kind last hash es are.1)
 
 put_by : (kind : Kind) (last : ℕ) (hash : List ℕ) (state : KeyState) (e : List ℕ × KeyState) (es rest : States) (o : Ordering)
     → IsStateOf kind last (hash, state) → AreStatesOf kind last (e ∷ es) → AreStatesOf kind last rest
     → AreStatesOf kind last (match_ordering o ((hash, state) ∷ e ∷ es) ((e.0, state) ∷ es) (e ∷ rest))
 put_by kind last hash state e es rest Less own are others = (own, are)
-put_by kind last hash state e es rest Equal own are others = (at_hash kind last e.0 (hash, state) are.0.hash own, are.1)
+put_by kind last hash state e es rest Equal own are others = (at_hash kind last e.0 (hash, state) own, are.1)
 put_by kind last hash state e es rest Greater own are others = (are.0, others)
 
 -- states with another one at a key
@@ -120,16 +119,16 @@ choice_merges kind decided echo base own remote keeps own_is remote_is =
 accepted_is : (kind : Kind) (last : ℕ) (hash : List ℕ) (state : KeyState) (update : Update)
     → IsStateOf kind last (hash, state) → IsUpdateOf kind update → IsStateOf kind last (hash, accepted state update)
 accepted_is kind last hash state update own is =
-    record { hash = own.hash; known = is.version; base = is.value; own = is.value; edit = own.edit; due = tt }
+    record { known = is.version; base = is.value; own = is.value; edit = own.edit; due = tt }
 
 settled_is : (kind : Kind) (last : ℕ) (hash : List ℕ) (state : KeyState) (update : Update) (choice : Choice)
     → IsStateOf kind last (hash, state) → IsUpdateOf kind update → Merges kind choice → IsStateOf kind last (hash, settled state update choice)
 settled_is kind last hash state update Same own is merges = accepted_is kind last hash state update own is
 settled_is kind last hash state update Remote own is merges = accepted_is kind last hash state update own is
 settled_is kind last hash state update Local own is merges =
-    record { hash = own.hash; known = is.version; base = is.value; own = own.own; edit = own.edit; due = own.due }
+    record { known = is.version; base = is.value; own = own.own; edit = own.edit; due = own.due }
 settled_is kind last hash state update (MergedInto value) own is merges =
-    record { hash = own.hash; known = is.version; base = is.value; own = merges; edit = own.edit; due = own.due }
+    record { known = is.version; base = is.value; own = merges; edit = own.edit; due = own.due }
 
 one_of : (P : KeyState → Type 0) (test : Bool) (a b : KeyState) → P a → P b → P (if test then a else b)
 one_of P true a b at_a at_b = at_a
@@ -157,7 +156,7 @@ update_are kind last decided states update keeps are is =
     are_by kind last (is_old (state_at states update.hash) update) states
     (with_state states update.hash (updated decided (state_at states update.hash) update)) are
     (put_are kind last update.hash (updated decided (state_at states update.hash) update) states
-    (updated_is kind last update.hash decided (state_at states update.hash) update keeps (state_is kind last update.hash states is.hash are) is) are)
+    (updated_is kind last update.hash decided (state_at states update.hash) update keeps (state_is kind last update.hash states are) is) are)
 
 updates_are : (kind : Kind) (last : ℕ) (decided : Value → Value → Decision) (states : States) (updates : List Update) → KeepsEachType decided
     → AreStatesOf kind last states → AllByRecursion (IsUpdateOf kind) updates → AreStatesOf kind last (after_updates decided states updates)
@@ -185,7 +184,6 @@ unfolding acknowledged
 acknowledged_is kind last hash state ack own is =
     one_of (λ after. IsStateOf kind last (hash, after)) (is_ignored state ack) state _ own
     (record {
-      hash = own.hash;
       known = is.version;
       base = is.value;
       own = own_acked kind (is_some (still_due state.due ack.number)) state.own ack.value own.own is.value;
@@ -200,7 +198,7 @@ ack_are kind last states ack are is =
     are_by kind last (is_ignored (state_at states ack.hash) ack) states
     (with_state states ack.hash (acknowledged (state_at states ack.hash) ack)) are
     (put_are kind last ack.hash (acknowledged (state_at states ack.hash) ack) states
-    (acknowledged_is kind last ack.hash (state_at states ack.hash) ack (state_is kind last ack.hash states is.hash are) is) are)
+    (acknowledged_is kind last ack.hash (state_at states ack.hash) ack (state_is kind last ack.hash states are) is) are)
 
 acks_are : (kind : Kind) (last : ℕ) (states : States) (acks : List Ack)
     → AreStatesOf kind last states → AllByRecursion (IsAckOf kind) acks → AreStatesOf kind last (after_acks states acks)
@@ -215,37 +213,24 @@ pub task_are : (kind : Kind) (last : ℕ) (decided : Value → Value → Decisio
 task_are kind last decided states (Updating batch) keeps are is = updates_are kind last decided states batch.updates keeps are is
 task_are kind last decided states (Acks acks) keeps are is = acks_are kind last states acks are is
 
-update_hashes : (kind : Kind) (updates : List Update) → AllByRecursion (IsUpdateOf kind) updates → HaveHashes updates
-update_hashes kind [] is = tt
-update_hashes kind (update ∷ updates) is = (is.0.hash, update_hashes kind updates is.1)
-
-ack_hashes : (kind : Kind) (acks : List Ack) → AllByRecursion (IsAckOf kind) acks → AcksHaveHashes acks
-ack_hashes kind [] is = tt
-ack_hashes kind (ack ∷ acks) is = (is.0.hash, ack_hashes kind acks is.1)
-
--- what a task of the type has
-pub task_hashes : (kind : Kind) (task : Task) → IsTaskOf kind task → TaskHasHashes task
-task_hashes kind (Updating batch) is = update_hashes kind batch.updates is
-task_hashes kind (Acks acks) is = ack_hashes kind acks is
-
 later_are : (kind : Kind) (last more : ℕ) (states : States) → last ≤ more → AreStatesOf kind last states → AreStatesOf kind more states
 later_are kind last more [] less are = tt
 later_are kind last more (e ∷ es) less are =
-    (record { hash = are.0.hash; known = are.0.known; base = are.0.base; own = are.0.own; edit = omega (arith, are.0.edit, less); due = are.0.due }, later_are kind last more es less are.1)
+    (record { known = are.0.known; base = are.0.base; own = are.0.own; edit = omega (arith, are.0.edit, less); due = are.0.due }, later_are kind last more es less are.1)
 
 -- the states after an edit, which has the next number
-pub edit_are : (kind : Kind) (last : ℕ) (hash : List ℕ) (value : Value) (states : States) → IsHash hash → IsTrue (may_have kind value)
+pub edit_are : (kind : Kind) (last : ℕ) (hash : List ℕ) (value : Value) (states : States) → IsTrue (may_have kind value)
     → AreStatesOf kind last states → AreStatesOf kind (last + 1) (with_state states hash (edited (state_at states hash) value (last + 1)))
-edit_are kind last hash value states is value_is are =
+edit_are kind last hash value states value_is are =
     let more : AreStatesOf kind (last + 1) states = later_are kind last (last + 1) states (omega arith) are in
-    let own : IsStateOf kind (last + 1) (hash, state_at states hash) = state_is kind (last + 1) hash states is more in
+    let own : IsStateOf kind (last + 1) (hash, state_at states hash) = state_is kind (last + 1) hash states more in
     put_are kind (last + 1) hash (edited (state_at states hash) value (last + 1)) states
-    (record { hash = is; known = own.known; base = own.base; own = value_is; edit = omega arith; due = refl }) more
+    (record { known = own.known; base = own.base; own = value_is; edit = omega arith; due = refl }) more
 
 -- no edit of a key has the next number
-pub next_number : (kind : Kind) (last : ℕ) (hash : List ℕ) (states : States) → IsHash hash → AreStatesOf kind last states
+pub next_number : (kind : Kind) (last : ℕ) (hash : List ℕ) (states : States) → AreStatesOf kind last states
     → (state_at states hash).last_edit < last + 1
-next_number kind last hash states is are = omega (arith, (state_is kind last hash states is are).edit)
+next_number kind last hash states are = omega (arith, (state_is kind last hash states are).edit)
 
 -- what an edit makes of an own value is of the edit's type
 pub edit_value_is : (own : Value) (edit : Edit) → IsTrue (may_have (edit_kind edit) (edit_value own edit))
@@ -261,14 +246,14 @@ offered_is : (kind : Kind) (last : ℕ) (hash : List ℕ) (state : KeyState) (nu
     → IsStateOf kind last (hash, state) → IsStateOf kind last (hash, noted state number value)
 unfolding noted
 offered_is kind last hash state number value own =
-    record { hash = own.hash; known = own.known; base = own.base; own = own.own; edit = own.edit; due = own.due }
+    record { known = own.known; base = own.base; own = own.own; edit = own.edit; due = own.due }
 
 -- the states once some values were offered
-pub offers_kept_are : (kind : Kind) (last : ℕ) (states : States) (offers : List Offer) → AreStatesOf kind last states → OffersHaveHashes offers
+pub offers_kept_are : (kind : Kind) (last : ℕ) (states : States) (offers : List Offer) → AreStatesOf kind last states
     → AreStatesOf kind last (after_offers states offers)
 unfolding after_offers
-offers_kept_are kind last states [] are hashes = are
-offers_kept_are kind last states (offer ∷ offers) are hashes =
+offers_kept_are kind last states [] are = are
+offers_kept_are kind last states (offer ∷ offers) are =
     offers_kept_are kind last (after_offer states offer) offers
     (put_are kind last offer.hash (noted (state_at states offer.hash) offer.number offer.value) states
-    (offered_is kind last offer.hash (state_at states offer.hash) offer.number offer.value (state_is kind last offer.hash states hashes.0 are)) are) hashes.1
+    (offered_is kind last offer.hash (state_at states offer.hash) offer.number offer.value (state_is kind last offer.hash states are)) are)

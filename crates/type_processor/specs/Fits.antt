@@ -23,13 +23,11 @@ may_have kind value = is_absent value || is_value_of kind value
 
 -- an update of an entity of a type
 pub record IsUpdateOf (kind : Kind) (update : Update) : Type 0 where
-  pub hash : IsHash update.hash
   pub version : update.version ≤ LAST_VERSION
   pub value : IsTrue (may_have kind update.value)
 
 -- an acknowledgement of an edit of a type
 pub record IsAckOf (kind : Kind) (ack : Ack) : Type 0 where
-  pub hash : IsHash ack.hash
   pub version : ack.version ≤ LAST_VERSION
   pub value : IsTrue (may_have kind ack.value)
 
@@ -49,13 +47,12 @@ pub record IsOwnOffer (states : States) (offer : Offer) : Type 0 where
   pub number : offer.number ≡ (state_at states offer.hash).last_edit
   pub value : offer.value ≡ (state_at states offer.hash).own
 
--- each offer has a hash
+-- each offer has a hash of twenty bytes
 abbrev pub OffersHaveHashes : List Offer → Type 0
 OffersHaveHashes offers = AllByRecursion (λ offer. IsHash offer.hash) offers
 
 -- the state of a key of a type, whose edits have numbers up to the last one; what is due is the key's last edit
 pub record IsStateOf (kind : Kind) (last : ℕ) (key : List ℕ × KeyState) : Type 0 where
-  pub hash : IsHash key.0
   pub known : key.1.known ≤ LAST_VERSION
   pub base : IsTrue (may_have kind key.1.base)
   pub own : IsTrue (may_have kind key.1.own)
@@ -65,16 +62,3 @@ pub record IsStateOf (kind : Kind) (last : ℕ) (key : List ℕ × KeyState) : T
 -- the states of keys of a type, whose edits have numbers up to the last one
 abbrev pub AreStatesOf : Kind → ℕ → States → Type 0
 AreStatesOf kind last states = AllByRecursion (IsStateOf kind last) states
-
--- each update has a hash
-abbrev pub HaveHashes : List Update → Type 0
-HaveHashes updates = AllByRecursion (λ update. IsHash update.hash) updates
-
--- each acknowledgement has a hash
-abbrev pub AcksHaveHashes : List Ack → Type 0
-AcksHaveHashes acks = AllByRecursion (λ ack. IsHash ack.hash) acks
-
--- each of a task's updates, or of its acknowledgements, has a hash
-abbrev pub TaskHasHashes : Task → Type 0
-TaskHasHashes (Updating batch) = HaveHashes batch.updates
-TaskHasHashes (Acks acks) = AcksHaveHashes acks

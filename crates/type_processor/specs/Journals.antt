@@ -9,8 +9,8 @@ use Rattle.type_processor.specs.Keyed.{hashes_of, key_of, key_at}
 -- one change leads back: a state was put at its key, where there was what it tells, and other keys stayed
 pub record IsChange (change : Change) (before after : States) : Type 0 where
   pub state : KeyState
-  pub put : after ≡ with_state before change.hash.bytes state
-  pub before_was : option_map key_of change.before ≡ key_at before change.hash.bytes
+  pub put : after ≡ with_state before change.hash state
+  pub before_was : option_map key_of change.before ≡ key_at before change.hash
   pub kept : IsSome change.before → hashes_of after ≡ hashes_of before
 
 -- changes, the last one first, lead back from some states to the first ones

@@ -12,7 +12,7 @@ use Rattle.sync_model.specs.Sides.{States}
 
 -- the state of a key and its tracker
 abbrev pub state_of : TagHash × Tracked → List ℕ × KeyState
-state_of entry = (entry.0.bytes, entry.1.state)
+state_of entry = (entry.0, entry.1.state)
 
 -- the states of some keys and their trackers
 abbrev pub states_of : List (TagHash × Tracked) → States
@@ -20,7 +20,7 @@ states_of entries = map state_of entries
 
 -- each tracker is that of its key
 abbrev pub AreKeyed : List (TagHash × Tracked) → Type 0
-AreKeyed entries = AllByRecursion (λ entry. entry.1.hash ≡ entry.0.bytes) entries
+AreKeyed entries = AllByRecursion (λ entry. entry.1.hash ≡ entry.0) entries
 
 -- the hashes of some keys
 abbrev pub hashes_of : States → List (List ℕ)

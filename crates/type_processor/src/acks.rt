@@ -1,13 +1,10 @@
 //! What acknowledgements make of the trackers.
 ghost use Rattle.std.specs.Prelude.{◌≡◌, false, option_to_list, IfOk, OnOk, OnErr};
-ghost use Rattle.client_tags.specs.Hashes.{IsHash};
 ghost use Rattle.sync_model.specs.KeyStates.{acknowledged, ended, is_ignored};
 ghost use Rattle.sync_model.specs.Sides.{States, state_at, note_of, after_ack, after_acks, notes_of};
-ghost use Rattle.type_processor.specs.Fits.{AcksHaveHashes};
 ghost use Rattle.type_processor.specs.Journals.{LeadsBack};
 ghost use Rattle.type_processor.specs.Keyed.{key_of};
 
-use crate::edits::hash_in;
 use crate::journal::{Change, put_changed, take_all_back};
 use crate::trackers::Trackers;
 use crate::updates::{copied_lock, push_note};
@@ -21,7 +18,7 @@ fn copied(ack: &Ack) -> Result<Ack, NoMemory>
     ensures { IfOk result (λ copy. copy ≡ ack.now) }
 {
     Ok(Ack {
-        hash: ack.hash.copy()?,
+        hash: ack.hash,
         version: ack.version,
         value: ack.value.copy()?,
         number: ack.number,
@@ -68,14 +65,13 @@ fn apply_ack(
     changes: &mut VecDeque<Change>,
     ack: &Ack,
 ) -> Result<Option<Note>, NoMemory>
-    requires { IsHash ack.now.hash }
     ensures states { OnOk result (trackers.new ≡ after_ack trackers.old ack.now) }
     ensures note { IfOk result (λ note. option_to_list note
         ≡ note_of (ended (state_at trackers.old ack.now.hash) ack.now) ack.now.version) }
     ensures leads { (first : States) → LeadsBack changes.old.items first trackers.old
         → LeadsBack changes.new.items first trackers.new }
 {
-    let mut tracker = trackers.current(alloc, &hash_in(&ack.hash))?;
+    let mut tracker = trackers.current(alloc, &ack.hash)?;
     if is_ignored(&tracker, ack) {
         return Ok(None);
     }
@@ -92,7 +88,6 @@ fn apply_each(
     changes: &mut VecDeque<Change>,
     acks: &[Ack],
 ) -> Result<Vec<Note>, NoMemory>
-    requires { AcksHaveHashes acks.now }
     ensures states { OnOk result (trackers.new ≡ after_acks trackers.old acks.now) }
     ensures notes { IfOk result (λ notes. notes.items ≡ notes_of trackers.old acks.now) }
     ensures leads { (first : States) → LeadsBack changes.old.items first trackers.old
@@ -112,7 +107,6 @@ pub(crate) fn apply_acks(
     trackers: &mut Trackers,
     acks: &[Ack],
 ) -> Result<Vec<Note>, NoMemory>
-    requires { AcksHaveHashes acks.now }
     ensures states { OnOk result (trackers.new ≡ after_acks trackers.old acks.now) }
     ensures notes { IfOk result (λ notes. notes.items ≡ notes_of trackers.old acks.now) }
     ensures err { OnErr result (trackers.new ≡ trackers.old) }

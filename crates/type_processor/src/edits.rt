@@ -1,6 +1,6 @@
 //! What an edit says: its key, how long its texts are, and what it makes of the key.
 ghost use Rattle.std.specs.Prelude.{◌≡◌, ◌+◌, ℕ, length, IfOk};
-ghost use Rattle.client_tags.specs.Hashes.{tag_hash as hash_of_tag, IsHash};
+ghost use Rattle.client_tags.specs.Hashes.{tag_hash as hash_of_tag};
 ghost use Rattle.client_tags.specs.Tags.{password_tag as tag_of_login};
 ghost use Rattle.client_tags.specs.declared.Kind.TheVariants.{Preference as preference_kind, Password as password_kind};
 ghost use Rattle.sync_values.specs.declared.value.Value.TheVariants.{Preference as preference_value, Password as login_value};
@@ -22,7 +22,7 @@ fn hash_of_texts(
     pass_element: &Octets,
     realm: &Octets,
 ) -> TagHash
-    ensures { result.bytes
+    ensures { result
         ≡ hash_of_tag password_kind (tag_of_login origin.now user_element.now user_value.now pass_element.now realm.now) }
 {
     login_hash(
@@ -35,7 +35,7 @@ fn hash_of_texts(
 }
 
 fn hash_of_login(login: &Password) -> TagHash
-    ensures { result.bytes ≡ hash_of_tag password_kind (login_tag login.now) }
+    ensures { result ≡ hash_of_tag password_kind (login_tag login.now) }
 {
     hash_of_texts(
         &login.origin,
@@ -47,14 +47,14 @@ fn hash_of_login(login: &Password) -> TagHash
 }
 
 fn preference_hash(name: &Octets) -> TagHash
-    ensures { result.bytes ≡ hash_of_tag preference_kind name.now }
+    ensures { result ≡ hash_of_tag preference_kind name.now }
 {
     tag_hash(Kind::Preference, name.as_slice())
 }
 
 /// The hash of the key that an edit changes, in time linear in its texts.
 pub(crate) fn edit_hash(edit: &Edit) -> TagHash
-    ensures { result.bytes ≡ edit_hash edit.now }
+    ensures { result ≡ edit_hash edit.now }
 {
     match edit {
         Edit::SetPreference(preference) => preference_hash(&preference.name),
@@ -196,23 +196,4 @@ pub(crate) fn edit_value(alloc: Global, own: &Value, edit: Edit) -> Result<Value
         Edit::SetNigori(nigori) => Ok(Value::Nigori(nigori)),
         _ => Ok(Value::Absent),
     }
-}
-
-/// A hash in its messages' form.
-pub(crate) fn hash_in(bytes: &Octets) -> TagHash
-    requires { IsHash bytes.now }
-    ensures { result.bytes ≡ bytes.now }
-{
-    match <[u8; 20]>::try_from(bytes.as_slice()) {
-        Ok(bytes) => TagHash { bytes },
-        Err(_) => unreachable!(),
-    }
-}
-
-/// Twenty bytes are those of a hash.
-pub(crate) fn are_hash_bytes(bytes: &[u8; 20])
-    ensures { IsHash bytes.now }
-{
-    // As a slice they are known to be bytes.
-    let _len = bytes.as_slice().len();
 }

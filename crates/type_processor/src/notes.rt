@@ -1,12 +1,10 @@
 //! Keeping which values were offered.
 ghost use Rattle.std.specs.Prelude.{◌≡◌, OnOk, OnErr};
 ghost use Rattle.std.specs.List.{AllByRecursion};
-ghost use Rattle.client_tags.specs.Hashes.{IsHash};
 ghost use Rattle.sync_model.specs.Sides.{States, after_offer, after_offers};
-ghost use Rattle.type_processor.specs.Fits.{IsOwnOffer, OffersHaveHashes};
+ghost use Rattle.type_processor.specs.Fits.{IsOwnOffer};
 ghost use Rattle.type_processor.specs.Journals.{LeadsBack};
 
-use crate::edits::hash_in;
 use crate::journal::{Change, put_changed, take_all_back};
 use crate::trackers::Trackers;
 use std::alloc::Global;
@@ -21,13 +19,12 @@ fn note_offer(
     changes: &mut VecDeque<Change>,
     offer: &Offer,
 ) -> Result<(), NoMemory>
-    requires hash { IsHash offer.now.hash }
-    requires own { IsOwnOffer trackers.old offer.now }
+    requires { IsOwnOffer trackers.old offer.now }
     ensures states { OnOk result (trackers.new ≡ after_offer trackers.old offer.now) }
     ensures leads { (first : States) → LeadsBack changes.old.items first trackers.old
         → LeadsBack changes.new.items first trackers.new }
 {
-    let mut tracker = trackers.current(alloc, &hash_in(&offer.hash))?;
+    let mut tracker = trackers.current(alloc, &offer.hash)?;
     tracker.note_offered()?;
     put_changed(trackers, changes, tracker)?;
     Ok(())
@@ -41,8 +38,7 @@ fn note_each(
     changes: &mut VecDeque<Change>,
     offers: &[Offer],
 ) -> Result<(), NoMemory>
-    requires hashes { OffersHaveHashes offers.now }
-    requires own { AllByRecursion (IsOwnOffer trackers.old) offers.now }
+    requires { AllByRecursion (IsOwnOffer trackers.old) offers.now }
     ensures states { OnOk result (trackers.new ≡ after_offers trackers.old offers.now) }
     ensures leads { (first : States) → LeadsBack changes.old.items first trackers.old
         → LeadsBack changes.new.items first trackers.new }
@@ -59,8 +55,7 @@ pub(crate) fn note_offers(
     trackers: &mut Trackers,
     offers: &[Offer],
 ) -> Result<(), NoMemory>
-    requires hashes { OffersHaveHashes offers.now }
-    requires own { AllByRecursion (IsOwnOffer trackers.old) offers.now }
+    requires { AllByRecursion (IsOwnOffer trackers.old) offers.now }
     ensures states { OnOk result (trackers.new ≡ after_offers trackers.old offers.now) }
     ensures err { OnErr result (trackers.new ≡ trackers.old) }
 {

@@ -6,7 +6,6 @@ ghost use Rattle.sync_model.specs.declared.state.KeyState.{KeyState as KeyStateO
 ghost use Rattle.sync_model.specs.Changes.{own_at};
 ghost use Rattle.sync_model.specs.Edits.{edit_kind, edit_value, edit_length};
 ghost use Rattle.sync_model.specs.Offers.{offers_of, reseal_count};
-ghost use Rattle.client_tags.specs.Hashes.{IsHash};
 ghost use Rattle.sync_model.specs.Sides.{due_count, is_full, side_edited, side_offered, state_at};
 ghost use Rattle.type_processor.specs.Edits.{edit_hash as hash_of_edit, refusal_of, edited_by, edit_told, told_length, IsRefusalAt, IsFaultAt};
 ghost use Rattle.type_processor.specs.Fits.{IsTaskOf, IsOfferOf};
@@ -16,7 +15,7 @@ ghost use Rattle.type_processor.specs.Turns.{turned, turn_told};
 
 use crate::answers::{EditFault, Edited, Turn};
 use crate::counts::{copied_trackers, due_count, reseal_count};
-use crate::edits::{are_hash_bytes, edit_hash, edit_length, edit_value};
+use crate::edits::{edit_hash, edit_length, edit_value};
 use crate::notes::note_offers;
 use crate::offers::first_offers;
 use crate::tasks::{apply_task, discard_task, raised_mark};
@@ -86,7 +85,7 @@ impl<R: TypeRules> Processor<R> {
 
     // There is no room for an edit of this key.
     fn is_full(&self, hash: &TagHash) -> bool
-        ensures { result ≡ is_full (side_of self.now) hash.now.bytes }
+        ensures { result ≡ is_full (side_of self.now) hash.now }
     {
         (self.trackers.len() >= MAX_STATES && !self.trackers.contains(hash))
             || self.last_edit == u64::MAX
@@ -94,7 +93,7 @@ impl<R: TypeRules> Processor<R> {
 
     // How many bytes an edit of this key has, with the unknown fields of the value that it makes.
     fn length_at(&self, hash: &TagHash, edit: &Edit) -> u64
-        ensures { result ≡ told_length (edit_length (own_at (side_of self.now) hash.now.bytes) edit.now) }
+        ensures { result ≡ told_length (edit_length (own_at (side_of self.now) hash.now) edit.now) }
     {
         match self.trackers.get(hash) {
             Some(tracker) => edit_length(tracker.own(), edit),
@@ -104,13 +103,11 @@ impl<R: TypeRules> Processor<R> {
 
     // The hash of an edit's key, if the edit may be taken.
     fn room_for(&self, edit: &Edit) -> Result<TagHash, EditFault>
-        ensures hash { IfOk result (λ hash. hash.bytes ≡ hash_of_edit edit.now) }
-        ensures is_hash { IfOk result (λ hash. IsHash hash.bytes) }
+        ensures hash { IfOk result (λ hash. hash ≡ hash_of_edit edit.now) }
         ensures may { OnOk result (refusal_of self.now edit.now ≡ None) }
         ensures refused { IfErr result (IsRefusalAt self.now edit.now) }
     {
         let hash = edit_hash(edit);
-        are_hash_bytes(&hash.bytes);
         let len = self.length_at(&hash, edit);
         if len > MAX_TEXT {
             return Err(EditFault::TooLong { len });
@@ -124,14 +121,13 @@ impl<R: TypeRules> Processor<R> {
 
     // Takes an edit of a key for which there is room.
     fn take(&mut self, hash: &TagHash, edit: Edit) -> Result<Edited, NoMemory>
-        requires hash { IsHash hash.now.bytes }
         requires kind { edit_kind edit ≡ self.old.kind }
-        requires room { is_full (side_of self.old) hash.now.bytes ≡ false }
-        ensures ok { OnOk result (self.new ≡ with_side self.old (side_edited (side_of self.old) hash.now.bytes
-            (edit_value (own_at (side_of self.old) hash.now.bytes) edit))) }
+        requires room { is_full (side_of self.old) hash.now ≡ false }
+        ensures ok { OnOk result (self.new ≡ with_side self.old (side_edited (side_of self.old) hash.now
+            (edit_value (own_at (side_of self.old) hash.now) edit))) }
         ensures told { IfOk result (λ edited. edited ≡ record {
           number = self.old.last_edit + 1;
-          followed = (state_at self.old.states hash.now.bytes).due;
+          followed = (state_at self.old.states hash.now).due;
         }) }
         ensures err { OnErr result (self.new ≡ self.old) }
     {
@@ -222,7 +218,7 @@ impl<R: TypeRules> Processor<R> {
 
     /// A copy of a key's own value, if anything is known of the key.
     pub fn value(&self, hash: &TagHash) -> Result<Option<Value>, NoMemory>
-        ensures { IfOk result (λ value. value ≡ option_map (λ (state : KeyStateOf). state.own) (found_at self.now.states hash.now.bytes)) }
+        ensures { IfOk result (λ value. value ≡ option_map (λ (state : KeyStateOf). state.own) (found_at self.now.states hash.now)) }
     {
         match self.trackers.get(hash) {
             Some(tracker) => Ok(Some(tracker.own().copy()?)),
@@ -260,7 +256,7 @@ impl<R: TypeRules> Processor<R> {
 
     /// What is known of a key, if anything is, without a copy.
     pub fn tracker(&self, hash: &TagHash) -> Option<&Tracker>
-        ensures { option_map key_of (option_copied result) ≡ key_at self.now.states hash.now.bytes }
+        ensures { option_map key_of (option_copied result) ≡ key_at self.now.states hash.now }
     {
         self.trackers.get(hash)
     }

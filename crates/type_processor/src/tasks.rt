@@ -1,7 +1,6 @@
 //! What a task makes of a type.
 ghost use Rattle.std.specs.Prelude.{◌≡◌, IfOk, OnOk, OnErr};
 ghost use Rattle.sync_model.specs.Sides.{task_notes};
-ghost use Rattle.type_processor.specs.Fits.{TaskHasHashes};
 ghost use Rattle.type_processor.specs.Turns.{states_after, mark_after};
 
 use crate::acks::apply_acks;
@@ -20,7 +19,6 @@ pub(crate) fn apply_task<R: TypeRules>(
     trackers: &mut Trackers,
     task: &Task,
 ) -> Result<Vec<Note>, NoMemory>
-    requires { TaskHasHashes task.now }
     ensures states { OnOk result (trackers.new ≡ states_after (R.decided rules.now) trackers.old task.now) }
     ensures notes { IfOk result (λ notes. notes.items ≡ task_notes (R.decided rules.now) trackers.old task.now) }
     ensures err { OnErr result (trackers.new ≡ trackers.old) }

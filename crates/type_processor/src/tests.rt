@@ -6,7 +6,6 @@ ghost use Rattle.sync_values.specs.declared.value.Value.TheVariants.{Password as
 ghost use Rattle.sync_model.specs.Edits.{edit_kind};
 ghost use Rattle.type_processor.specs.Fits.{LAST_VERSION, IsUpdateOf, IsAckOf};
 
-use crate::edits::are_hash_bytes;
 use crate::*;
 use std::alloc::Global;
 use std::test::Fail;
@@ -44,38 +43,36 @@ fn made(value: &Value) -> i64 {
     }
 }
 
-fn update(alloc: Global, hash: &TagHash, version: u64, created: i64) -> Result<Update, NoMemory>
+fn update(alloc: Global, hash: TagHash, version: u64, created: i64) -> Update
     requires { version ≤ LAST_VERSION }
-    ensures { IfOk result (IsUpdateOf password_kind) }
+    ensures { IsUpdateOf password_kind result }
 {
-    are_hash_bytes(&hash.bytes);
-    Ok(Update {
-        hash: Octets::from_slice(alloc, &hash.bytes)?,
+    Update {
+        hash,
         version,
         value: Value::Password(login(alloc, created)),
         lock: None,
-    })
+    }
 }
 
-fn ack(alloc: Global, hash: &TagHash, version: u64, number: u64) -> Result<Ack, NoMemory>
+fn ack(alloc: Global, hash: TagHash, version: u64, number: u64) -> Ack
     requires { version ≤ LAST_VERSION }
-    ensures { IfOk result (IsAckOf password_kind) }
+    ensures { IsAckOf password_kind result }
 {
-    are_hash_bytes(&hash.bytes);
-    Ok(Ack {
-        hash: Octets::from_slice(alloc, &hash.bytes)?,
+    Ack {
+        hash,
         version,
         value: Value::Password(login(alloc, 1)),
         number,
         lock: None,
-    })
+    }
 }
 
 // The login's hash.
 fn login_hash() -> TagHash {
     match TagHash::from_text(HASH) {
         Some(hash) => hash,
-        None => TagHash { bytes: [0; 20] },
+        None => TagHash::from_bytes([0; 20]),
     }
 }
 
@@ -89,7 +86,7 @@ fn post_update(
     requires version { version ≤ LAST_VERSION }
     ensures { processor.new.kind ≡ password_kind }
 {
-    let update = update(alloc, &login_hash(), version, created)?;
+    let update = update(alloc, login_hash(), version, created);
     let mut updates = List::new(alloc);
     updates.push(update)?;
     let mark = version;
@@ -106,7 +103,7 @@ fn post_ack(
     requires version { version ≤ LAST_VERSION }
     ensures { processor.new.kind ≡ password_kind }
 {
-    let ack = ack(alloc, &login_hash(), version, number)?;
+    let ack = ack(alloc, login_hash(), version, number);
     let mut acks = List::new(alloc);
     acks.push(ack)?;
     processor.post(Task::Acks(acks))

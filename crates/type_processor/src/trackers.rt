@@ -82,13 +82,13 @@ impl Trackers {
     }
 
     pub(crate) fn contains(&self, hash: &TagHash) -> bool
-        ensures { result ≡ has_state self.now hash.now.bytes }
+        ensures { result ≡ has_state self.now hash.now }
     {
         self.map.contains_key(hash)
     }
 
     pub(crate) fn get(&self, hash: &TagHash) -> Option<&Tracker>
-        ensures { option_map key_of (option_copied result) ≡ key_at self.now hash.now.bytes }
+        ensures { option_map key_of (option_copied result) ≡ key_at self.now hash.now }
     {
         self.map.get(hash)
     }
@@ -111,7 +111,7 @@ impl Trackers {
 
     /// A copy of a key's tracker, or a fresh one where there is none.
     pub(crate) fn current(&self, alloc: Global, hash: &TagHash) -> Result<Tracker, NoMemory>
-        ensures { IfOk result (λ tracker. key_of tracker ≡ (hash.now.bytes, state_at self.now hash.now.bytes)) }
+        ensures { IfOk result (λ tracker. key_of tracker ≡ (hash.now, state_at self.now hash.now)) }
     {
         match self.get(hash) {
             Some(tracker) => tracker.copy(),
@@ -132,7 +132,7 @@ impl Trackers {
 
     /// Takes a key's tracker out.
     pub(crate) fn remove(&mut self, hash: &TagHash)
-        ensures { self.new ≡ remove_entry (is_at (slice_cmp nat_cmp hash.now.bytes)) self.old }
+        ensures { self.new ≡ remove_entry (is_at (slice_cmp nat_cmp hash.now)) self.old }
     {
         let removed = self.map.remove(hash);
         discard(removed);

@@ -1,13 +1,10 @@
 //! What the updates of a batch make of the trackers.
 ghost use Rattle.std.specs.Prelude.{◌≡◌, ◌<◌, ◌++◌, IsTrue, is_some, option_to_list, IfOk, OnOk, OnErr};
-ghost use Rattle.client_tags.specs.Hashes.{IsHash};
 ghost use Rattle.sync_model.specs.KeyStates.{settled, updated, fate_by, fate_of_update};
 ghost use Rattle.sync_model.specs.Sides.{States, state_at, note_with, after_update, after_updates, update_notes};
-ghost use Rattle.type_processor.specs.Fits.{HaveHashes};
 ghost use Rattle.type_processor.specs.Journals.{LeadsBack};
 ghost use Rattle.type_processor.specs.Keyed.{key_of};
 
-use crate::edits::hash_in;
 use crate::journal::{Change, put_changed, take_all_back};
 use crate::trackers::Trackers;
 use conflict_rules::{Choice, Resolution, TypeRules, resolve};
@@ -31,7 +28,7 @@ fn copied(update: &Update) -> Result<Update, NoMemory>
     ensures { IfOk result (λ copy. copy ≡ update.now) }
 {
     Ok(Update {
-        hash: update.hash.copy()?,
+        hash: update.hash,
         version: update.version,
         value: update.value.copy()?,
         lock: copied_lock(&update.lock)?,
@@ -118,7 +115,6 @@ fn apply_update<R: TypeRules>(
     changes: &mut VecDeque<Change>,
     update: &Update,
 ) -> Result<Option<Note>, NoMemory>
-    requires { IsHash update.now.hash }
     ensures states { OnOk result (trackers.new ≡ after_update (R.decided rules.now) trackers.old update.now) }
     ensures note { IfOk result (λ note. option_to_list note
         ≡ note_with (state_at trackers.old update.now.hash).due
@@ -126,7 +122,7 @@ fn apply_update<R: TypeRules>(
     ensures leads { (first : States) → LeadsBack changes.old.items first trackers.old
         → LeadsBack changes.new.items first trackers.new }
 {
-    let mut tracker = trackers.current(alloc, &hash_in(&update.hash))?;
+    let mut tracker = trackers.current(alloc, &update.hash)?;
     if update.version <= tracker.known() {
         return Ok(None);
     }
@@ -145,7 +141,6 @@ fn apply_each<R: TypeRules>(
     changes: &mut VecDeque<Change>,
     updates: &[Update],
 ) -> Result<Vec<Note>, NoMemory>
-    requires { HaveHashes updates.now }
     ensures states { OnOk result (trackers.new ≡ after_updates (R.decided rules.now) trackers.old updates.now) }
     ensures notes { IfOk result (λ notes. notes.items
         ≡ update_notes (R.decided rules.now) trackers.old updates.now) }
@@ -167,7 +162,6 @@ pub(crate) fn apply_updates<R: TypeRules>(
     trackers: &mut Trackers,
     updates: &[Update],
 ) -> Result<Vec<Note>, NoMemory>
-    requires { HaveHashes updates.now }
     ensures states { OnOk result (trackers.new ≡ after_updates (R.decided rules.now) trackers.old updates.now) }
     ensures notes { IfOk result (λ notes. notes.items
         ≡ update_notes (R.decided rules.now) trackers.old updates.now) }

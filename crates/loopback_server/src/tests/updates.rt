@@ -11,7 +11,7 @@ fn is_deletion(entities: &[Entity]) -> bool {
                     &entity.specifics,
                     Some(Specifics::EmptyOf(Kind::Preference))
                 )
-                && entity.hash == Some(TagHash { bytes: [0; 20] })
+                && entity.hash == Some(TagHash::from_bytes([0; 20]))
         }
         _ => false,
     }
@@ -74,7 +74,7 @@ fn store_next(alloc: Global, server: &mut Server, version: u16) -> Result<(), No
     let [high, low] = version.to_be_bytes();
     bytes[0] = high;
     bytes[1] = low;
-    entity.hash = Some(TagHash { bytes });
+    entity.hash = Some(TagHash::from_bytes(bytes));
     commit(alloc, server, entity)?;
     Ok(())
 }

@@ -50,8 +50,7 @@ fn stores_a_preference(rt: HostRuntime) -> Result<(), Fail> {
 
 #[test]
 fn deletes_a_preference(rt: HostRuntime) -> Result<(), Fail> {
-    let hash = hash_of_a(rt.alloc())?;
-    let request = commit_of(rt.alloc(), plain_entry(hash, 3, Value::Absent))?;
+    let request = commit_of(rt.alloc(), plain_entry(hash_of_a(), 3, Value::Absent))?;
     let bytes = bytes_of(rt.alloc(), 12, &request)?;
     assert_eq!(rt; bytes.as_slice(), DELETE_A.as_slice());
     Ok(())

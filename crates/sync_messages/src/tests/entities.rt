@@ -36,7 +36,7 @@ fn an_entity_with_all_its_fields(rt: HostRuntime) -> Result<(), Fail> {
         version: 7,
         deleted: true,
         specifics: Some(Specifics::EmptyOf(Kind::Preference)),
-        hash: Some(TagHash { bytes: [0; 20] }),
+        hash: Some(TagHash::from_bytes([0; 20])),
     };
     let bytes = encode_entity(rt.alloc(), &entity)?;
     let wanted =
@@ -46,7 +46,7 @@ fn an_entity_with_all_its_fields(rt: HostRuntime) -> Result<(), Fail> {
     assert_eq!(rt; again.version, 7);
     assert!(rt; again.deleted);
     assert!(rt; again.specifics.is_some());
-    assert_eq!(rt; again.hash, Some(TagHash { bytes: [0; 20] }));
+    assert_eq!(rt; again.hash, Some(TagHash::from_bytes([0; 20])));
     Ok(())
 }
 

@@ -1,6 +1,6 @@
 use Rattle.std.proofs.Common.{◌≡◌, map, take}
 use Rattle.loopback_server.specs.Candidates.{entry_read, HaveIds}
-use Rattle.loopback_server.specs.Entries.{entry_in}
+use Rattle.replay_messages.specs.Entries.{entry_in}
 use Rattle.loopback_server.proofs.candidate.candidates_of.Given as goal
 
 abbrev pub invariant-loop-entity : goal.invariant-loop-entity

@@ -1,7 +1,7 @@
 use Rattle.std.proofs.Common.{◌≡◌, map, drop}
 use Rattle.std.specs.Option.{option_or}
 use Rattle.sync_model.specs.Servers.{mark_of}
-use Rattle.loopback_server.specs.Messages.{marker_in}
+use Rattle.replay_messages.specs.Replies.{marker_in}
 use Rattle.replay_client.proofs.letters.mark_told.Given as goal
 
 abbrev pub invariant-loop-marker : goal.invariant-loop-marker

@@ -1,5 +1,5 @@
 use Rattle.std.proofs.Common.{◌≡◌, map, take}
-use Rattle.loopback_server.specs.Messages.{told_marker}
+use Rattle.replay_messages.specs.Replies.{told_marker}
 use Rattle.replay_messages.proofs.told.told_markers.Given as goal
 
 abbrev pub invariant-loop-marker : goal.invariant-loop-marker

@@ -51,7 +51,7 @@ quiet-requires c =
     c.requires.kept c.in-Some.ensures c.in-Some-request_made.ensures in
     let reply = served_reply (history_at c.args.server.now c.in-Some.delivery.before) c.in-Some-request_made.asked.request.now in
     quiet_answer c.in-Some-request_made.asked.request.now reply c.in_ok-outcome.outcome (get_or c.args.clients.now (c.in-Some-request_made.asked.client - 1) c.index-clients-asked.result) c.answer.new.self
-    (c.in_ok-outcome.ensures.happens reply (c.in_ok-message.ensures.read (reply_told c.in-Some-request_made.asked.request.now reply) told.says.sayable (c.as_slice.ensures ∙ told.says.is_told)) told.says.answers)
+    (c.in_ok-outcome.ensures.happens 0 reply (c.in_ok-message.ensures.read (reply_told 0 c.in-Some-request_made.asked.request.now reply) (told.says.sayable 0) (c.as_slice.ensures ∙ told.says.is_told 0)) told.says.answers)
 
 pub returns-clause-receives : goal.returns-clause-receives
 returns-clause-receives c =
@@ -63,5 +63,5 @@ returns-clause-receives c =
     (number_found (length c.args.clients.now) (reverse c.args.happened.now) c.in-Some.delivery.request c.in-Some-request_made.asked.client c.in-Some-request_made.asked.request.now c.in-Some-request_made.asked.bytes.now c.requires.own c.in-Some-request_made.ensures)
     (ap (get_or c.args.clients.now (c.in-Some-request_made.asked.client - 1)) c.index-clients-asked.is)
     (sym c.awaits.ensures ∙ c.if-not-awaits.false)
-    (c.in_ok-outcome.ensures.happens reply (c.in_ok-message.ensures.read (reply_told c.in-Some-request_made.asked.request.now reply) told.says.sayable (c.as_slice.ensures ∙ told.says.is_told)) told.says.answers)
+    (c.in_ok-outcome.ensures.happens 0 reply (c.in_ok-message.ensures.read (reply_told 0 c.in-Some-request_made.asked.request.now reply) (told.says.sayable 0) (c.as_slice.ensures ∙ told.says.is_told 0)) told.says.answers)
     c.quiet.ensures.quiet c.quiet.ensures.same

@@ -1,15 +1,12 @@
 use Rattle.std.proofs.Common.{sym, arith}
 use Rattle.std.proofs.lemmas.List.{append-nil}
 use Rattle.sync_model.specs.Report.{entity_lines}
-use Rattle.replay_world.proofs.EntityLemmas.{entities_more, plain_at}
+use Rattle.replay_world.proofs.EntityLemmas.{entities_more}
 use Rattle.replay_world.proofs.report_entities.write_last.Goals as goal
 
 pub loop-place-init : goal.loop-place-init
 unfolding entity_lines
 loop-place-init c = sym (append-nil c.args.out.now.items)
-
-pub write_unless-requires : goal.write_unless-requires
-write_unless-requires c = plain_at c.args.writes.now c.loop-place.place c.index-writes-place.result c.requires.plain (omega arith) c.index-writes-place.is
 
 pub loop-place-preserved : goal.loop-place-preserved
 loop-place-preserved c =

@@ -20,7 +20,7 @@ returns-in-Turn-clause-steps c =
 
 pub returns-in-Gather-clause-steps : goal.returns-in-Gather-clause-steps
 returns-in-Gather-clause-steps c =
-    IfOk-weaker c.gather.result (ActsAlone c.in-Gather.client (gather_effect hashed c.in-Gather.kind) c.args.clients.now c.gather.new.clients) _
+    IfOk-weaker c.gather.result (ActsAlone c.in-Gather.client (gather_effect hashed c.in-Gather.client c.in-Gather.kind) c.args.clients.now c.gather.new.clients) _
     (λ happened acts. gather_steps c.args.event.now (reverse c.args.happened.now) c.args.server.now c.args.clients.now c.gather.new.clients c.args.settlements.now.items happened c.in-Gather.client c.in-Gather.kind c.requires.kept c.in-Gather.is acts) c.gather.ensures.acts
 
 pub returns-in-Post-clause-steps : goal.returns-in-Post-clause-steps

@@ -1,7 +1,7 @@
 use Rattle.std.proofs.Common.{◌≡◌, ◌+◌, ◌∷◌, ◌∙◌, List, ap, drop, sym}
 use Rattle.std.proofs.lemmas.List.{drop_more}
 use Rattle.sync_model.specs.declared.message.Offer.{Offer}
-use Rattle.type_processor.proofs.NoteLemmas.{rest_have_hashes, rest_are_own, rest_after}
+use Rattle.type_processor.proofs.NoteLemmas.{rest_are_own, rest_after}
 use Rattle.type_processor.proofs.notes.note_each.Goals as goal
 
 pub loop-offer-preserved : goal.loop-offer-preserved
@@ -12,7 +12,6 @@ loop-offer-preserved c =
     drop_more c.args.offers.now c.loop-offer.offer-index c.offer-item.result c.loop-offer-test.true
     ∙ ap (λ (offer : Offer). offer ∷ rest) (sym c.offer-item.is) in
     record {
-      hashes = rest_have_hashes left rest c.offer-item.result is c.loop-offer.invariant.hashes;
       own =
           rest_are_own c.loop-offer.trackers c.note_offer.new.trackers left rest c.offer-item.result is c.in_ok-note_offer.ensures.states
           c.loop-offer.invariant.own;

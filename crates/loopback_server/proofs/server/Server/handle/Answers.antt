@@ -1,5 +1,5 @@
 use Rattle.std.proofs.Common.{ap}
-use Rattle.loopback_server.specs.Messages.{call_in}
+use Rattle.replay_messages.specs.Replies.{call_in}
 use Rattle.loopback_server.specs.Stores.{history_of}
 use Rattle.loopback_server.proofs.Based.{based_after}
 use Rattle.loopback_server.proofs.CanonicalExtras.{either_canonical}

@@ -3,8 +3,8 @@ use Rattle.std.specs.List.{AllByRecursion}
 use Rattle.sync_messages.specs.Laws.{IsAnswer}
 use Rattle.sync_model.specs.History.{committed}
 use Rattle.loopback_server.specs.Candidates.{entry_read, HaveIds, HavePlaces}
-use Rattle.loopback_server.specs.Entries.{is_invalid}
-use Rattle.loopback_server.specs.Messages.{answers_told}
+use Rattle.replay_messages.specs.Entries.{is_invalid}
+use Rattle.replay_messages.specs.Replies.{answers_told}
 use Rattle.loopback_server.specs.Stores.{history_of, IsIndexed}
 use Rattle.loopback_server.proofs.store.Store.answer_all.Given as goal
 

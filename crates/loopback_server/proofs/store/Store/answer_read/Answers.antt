@@ -2,8 +2,8 @@ use Rattle.std.proofs.Common.{sym, ap, ◌∙◌, Option}
 use Rattle.sync_model.specs.History.{answer_to, history_with}
 use Rattle.loopback_server.specs.declared.candidate.Candidate.{Candidate}
 use Rattle.loopback_server.specs.Candidates.{entry_read}
-use Rattle.loopback_server.specs.Entries.{is_invalid}
-use Rattle.loopback_server.specs.Messages.{told_answer}
+use Rattle.replay_messages.specs.Entries.{is_invalid}
+use Rattle.replay_messages.specs.Replies.{told_answer}
 use Rattle.loopback_server.specs.Stores.{history_of}
 use Rattle.loopback_server.proofs.CommitLemmas.{invalid_answer, invalid_history}
 use Rattle.loopback_server.proofs.store.Store.answer_read.Goals as goal

@@ -1,6 +1,6 @@
 use Rattle.std.proofs.Common.{◌≡◌, ◌++◌, map}
 use Rattle.std.specs.List.{flat_map}
-use Rattle.loopback_server.specs.Messages.{told_entity}
+use Rattle.replay_messages.specs.Replies.{told_entity}
 use Rattle.loopback_server.specs.Pages.{given_at}
 use Rattle.loopback_server.specs.Stores.{history_of}
 use Rattle.loopback_server.proofs.store.Store.entities.Given as goal

@@ -2,7 +2,7 @@ use Rattle.std.proofs.Common.{sym, subst}
 use Rattle.std.specs.List.{AllByRecursion}
 use Rattle.std.specs.Prelude.{map}
 use Rattle.sync_messages.specs.Laws.{IsEntity}
-use Rattle.loopback_server.specs.Messages.{marker_in}
+use Rattle.replay_messages.specs.Replies.{marker_in}
 use Rattle.loopback_server.specs.Stores.{history_of}
 use Rattle.loopback_server.proofs.CanonicalExtras.{told_canonical}
 use Rattle.loopback_server.proofs.store.Store.updates.Goals as goal

@@ -6,7 +6,7 @@ use Rattle.replay_client.proofs.client.Client.take_offers.Goals as goal
 
 pub returns-in_default : goal.returns-in_default
 returns-in_default c =
-    rw (← c.self.view_is) record { ok = idle_kind c.self.inside c.args.kind c.in_default.not-Preference c.self.invariant.nigori.states c.self.invariant.password.states; err = tt }
+    rw (← c.self.view_is) record { ok = λ number. idle_kind number c.self.inside c.args.kind c.in_default.not-Preference c.self.invariant.nigori.states c.self.invariant.password.states; err = tt }
 
 pub hold-requires : goal.hold-requires
 hold-requires g =
@@ -32,6 +32,6 @@ invariant_of-self-2 c = record {
 
 pub returns-clause-ok : goal.returns-clause-ok
 returns-clause-ok c =
-    rw (← c.self.view_is, c.in-Preference.is) (noted_client c.self.inside c.offers.new.self c.in_ok-offers.offers c.hold.new.held.items c.in_ok-offers.ensures.noted
-    ∙ joined (client_of c.self.inside) c.hold.new.held.items c.room_beside-room.result c.in_ok-offers.offers c.self.invariant.nigori.states refl
+    λ number. rw (← c.self.view_is, c.in-Preference.is) (noted_client c.self.inside c.offers.new.self c.in_ok-offers.offers c.hold.new.held.items c.in_ok-offers.ensures.noted
+    ∙ joined number (client_of c.self.inside) c.hold.new.held.items c.room_beside-room.result c.in_ok-offers.offers c.self.invariant.nigori.states refl
     (rw c.deref.ensures.value at c.room_beside-room.ensures) c.in_ok-offers.ensures.offers (rw (c.reserve.ensures.items, c.into_vec.ensures) at c.hold.ensures))

@@ -30,18 +30,18 @@ happen-requires-clause-own c =
 pub invariant_of-self-in_err-happened : goal.invariant_of-self-in_err-happened
 invariant_of-self-in_err-happened c =
     let same : c.happen.new.clients ≡ c.self.inside.clients.items = c.in_err-happened.ensures.clients ∙ c.deref_mut.ensures.value in
-    subst (λ (clients : List Client). IsRight c.happen.new.server clients c.reserve.new.self.items c.self.inside.record)
+    subst (λ (clients : List Client). IsRight c.self.inside.seed c.happen.new.server clients c.reserve.new.self.items c.self.inside.record)
     (sym (put_back c.self.inside.clients.items c.happen.new.clients c.self.inside.clients.len (omega (arith, c.self.inside.clients.ok)) (ap length same)))
-    (still_right c.self.inside.server c.happen.new.server c.self.inside.clients.items c.happen.new.clients c.self.inside.happened.items c.reserve.new.self.items c.self.inside.record
+    (still_right c.self.inside.seed c.self.inside.server c.happen.new.server c.self.inside.clients.items c.happen.new.clients c.self.inside.happened.items c.reserve.new.self.items c.self.inside.record
     c.self.invariant c.in_err-happened.ensures.server same c.in_ok-reserve.ensures.items)
 
 pub invariant_of-self-2 : goal.invariant_of-self-2
 invariant_of-self-2 c =
-    subst (λ (clients : List Client). IsRight c.happen.new.server clients c.push_reserved.new.self.items c.record_message.new.record)
-    (sym (put_back c.self.inside.clients.items c.happen.new.clients c.self.inside.clients.len (omega (arith, c.self.inside.clients.ok)) (c.in_ok-happened.ensures.steps.counted ∙ ap length c.deref_mut.ensures.value)))
-    (stepped_right c.self.inside.server c.happen.new.server c.self.inside.clients.items c.deref_mut.result.now c.happen.new.clients c.self.inside.happened.items c.deref.result.now c.push_reserved.new.self.items
+    subst (λ (clients : List Client). IsRight c.self.inside.seed c.happen.new.server clients c.push_reserved.new.self.items c.record_message.new.record)
+    (sym (put_back c.self.inside.clients.items c.happen.new.clients c.self.inside.clients.len (omega (arith, c.self.inside.clients.ok)) ((c.in_ok-happened.ensures.steps 0).counted ∙ ap length c.deref_mut.ensures.value)))
+    (stepped_right c.self.inside.seed c.self.inside.server c.happen.new.server c.self.inside.clients.items c.deref_mut.result.now c.happen.new.clients c.self.inside.happened.items c.deref.result.now c.push_reserved.new.self.items
     c.self.inside.record c.record_message.new.record c.args.event.now c.self.inside.settlements.items c.happen.new.settlements.items c.in_ok-happened.happened
-    c.self.invariant (c.deref.ensures.value ∙ c.in_ok-reserve.ensures.items) c.deref_mut.ensures.value c.in_ok-happened.ensures.steps
+    c.self.invariant (c.deref.ensures.value ∙ c.in_ok-reserve.ensures.items) c.deref_mut.ensures.value (c.in_ok-happened.ensures.steps c.self.inside.seed)
     (c.push_reserved.ensures.items ∙ ap (λ (items : List Happened). items ++ c.in_ok-happened.happened ∷ []) c.in_ok-reserve.ensures.items) c.record_message.ensures)
 
 pub returns-clause-counted : goal.returns-clause-counted

@@ -15,7 +15,7 @@ returns c =
     c.from_vec.ensures
     ∙ subst (λ (world : World). c.write_digest_line.new.out.items ≡ full_report world) c.self.view_is
     (report_is (world_of c.self.inside) c.digest.result c.new-out.result.items c.write_events.new.out.items c.write_server.new.out.items c.write_entities.new.out.items c.write_clients.new.out.items c.write_totals.new.out.items
-    c.write_digest_line.new.out.items refl (c.digest.ensures (wire_record (outcomes_of c.self.inside.server (reverse c.self.inside.happened.items))) c.self.invariant.recorded)
+    c.write_digest_line.new.out.items refl (c.digest.ensures (wire_record c.self.inside.seed (outcomes_of c.self.inside.server (reverse c.self.inside.happened.items))) c.self.invariant.recorded)
     c.new-out.ensures.items
     (c.in_ok-write_events.ensures c.self.inside.server ∙ (λ i. c.new-out.result.items ++ events_line (outcomes_of c.self.inside.server (reverse (c.deref.ensures.value i)))))
     c.in_ok-write_server.ensures c.in_ok-write_entities.ensures

@@ -15,7 +15,7 @@ use Rattle.type_processor.proofs.processor.Processor.take.Goals as goal
 pub local_change-requires : goal.local_change-requires
 local_change-requires g c =
     subst (λ (key : List ℕ × KeyState). key.1.last_edit < c.self.inside.last_edit + 1) (sym c.in_ok-tracker.ensures)
-    (next_number c.self.inside.kind c.self.inside.last_edit c.args.hash.now.bytes c.self.inside.trackers c.requires.hash c.self.invariant.states)
+    (next_number c.self.inside.kind c.self.inside.last_edit c.args.hash.now c.self.inside.trackers c.self.invariant.states)
 
 pub invariant_of-self-2 : goal.invariant_of-self-2
 invariant_of-self-2 g c = record {
@@ -25,7 +25,7 @@ invariant_of-self-2 g c = record {
       ∙ ap (λ (tracked : Tracked). with_state c.self.inside.trackers tracked.hash tracked.state) c.local_change.ensures
       ∙ ap (λ (key : List ℕ × KeyState). with_state c.self.inside.trackers key.0 (edited key.1 c.in_ok-value.value (c.self.inside.last_edit + 1)))
       c.in_ok-tracker.ensures))
-      (edit_are c.self.inside.kind c.self.inside.last_edit c.args.hash.now.bytes c.in_ok-value.value c.self.inside.trackers c.requires.hash
+      (edit_are c.self.inside.kind c.self.inside.last_edit c.args.hash.now c.in_ok-value.value c.self.inside.trackers
       (subst (λ (value : Value). IsTrue (may_have c.self.inside.kind value)) (sym c.in_ok-value.ensures)
       (subst (λ (kind : Kind). IsTrue (may_have kind (edit_value c.own.result.now c.args.edit)))
       (c.requires.kind ∙ ap (λ (p : Processed g.row.R.Denot). p.kind) (sym c.self.view_is)) (edit_value_is c.own.result.now c.args.edit)))

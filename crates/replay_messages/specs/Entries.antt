@@ -45,7 +45,7 @@ no_entry = record { key = record { kind = kinds.Nigori; hash = [] }; version = 0
 -- which no write has.
 abbrev pub entry_with : Entity → Specifics → TagHash → Entry (Option Specifics)
 entry_with entity specifics hash = record {
-  key = record { kind = kind_of specifics; hash = hash.bytes };
+  key = record { kind = kind_of specifics; hash = hash };
   version = cast_unsigned w64 entity.version;
   content = Some (stored entity.deleted specifics);
 }

@@ -10,15 +10,7 @@ use Rattle.sync_model.specs.declared.message.Entry.{Entry}
 use Rattle.sync_model.specs.declared.message.Marker.{Marker}
 use Rattle.sync_model.specs.History.{answer_to, history_with, committed}
 use Rattle.sync_model.specs.Servers.{is_wanted, as_given, wanted_writes, history_after}
-
-pub all_of_both : {X : Type 0} (P : X → Type 0) (first second : List X) → AllByRecursion P first → AllByRecursion P second → AllByRecursion P (first ++ second)
-all_of_both P [] second one other = other
-all_of_both P (x ∷ first) second one other = (one.0, all_of_both P first second one.1 other)
-
-pub all_of_first : {X : Type 0} (P : X → Type 0) (count : ℕ) (xs : List X) → AllByRecursion P xs → AllByRecursion P (take count xs)
-all_of_first P zero xs all = tt
-all_of_first P (suc count) [] all = tt
-all_of_first P (suc count) (x ∷ xs) all = (all.0, all_of_first P count xs all.1)
+use Rattle.sync_model.proofs.TrueAcks.{all_append}
 
 -- what holds of each image of some things
 pub all_mapped : {X Y : Type 0} (P : X → Type 0) (Q : Y → Type 0) (f : X → Y) → ((x : X) → P x → Q (f x)) → (xs : List X) → AllByRecursion P xs → AllByRecursion Q (map f xs)
@@ -62,7 +54,7 @@ pub wanted_holds : {C : Type 0} (P Q : Entry C → Type 0) (last : ℕ) → ((ve
 unfolding wanted_writes
 wanted_holds P Q last gives marks whole [] all short = tt
 wanted_holds P Q last gives marks whole (write ∷ older) all short =
-    all_of_both Q (wanted_writes marks whole older)
+    all_append Q (wanted_writes marks whole older)
     (if is_wanted marks whole (length older + 1) write then as_given (length older + 1) write ∷ [] else [])
     (wanted_holds P Q last gives marks whole older all.1 (omega (arith, short)))
     (given_holds Q (is_wanted marks whole (length older + 1) write) (length older + 1) write

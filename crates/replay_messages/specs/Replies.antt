@@ -31,7 +31,7 @@ use Rattle.sync_model.specs.declared.message.Verdict.{Verdict}
 use Rattle.sync_model.specs.declared.message.Verdict.TheVariants as verdicts
 use Rattle.sync_model.specs.History.{answers_to}
 use Rattle.sync_model.specs.Servers.{reply_to, history_served}
-use Rattle.loopback_server.specs.Entries.{is_empty, entry_in, is_invalid}
+use Rattle.replay_messages.specs.Entries.{is_empty, entry_in, is_invalid}
 
 -- the name that the server gives an entity: its type's number in decimal, `|`, and the text of its hash
 unfoldable pub id_of : Key → List ℕ
@@ -74,7 +74,7 @@ told_entity entry = record {
   version = cast_signed w64 entry.version;
   deleted = is_tombstone entry.content;
   specifics = entry.content;
-  hash = Some (record { bytes = entry.key.hash });
+  hash = Some entry.key.hash;
 }
 
 -- a type's mark as a message has it

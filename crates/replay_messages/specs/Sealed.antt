@@ -1,0 +1,57 @@
+-- What the specifics of an entry are: plain, or sealed with its draw. A run's seed gives the vectors of all draws.
+use Rattle.std.specs.Prelude.{ℕ, ◌+◌, ◌*◌, List, [], ◌∷◌, ◌++◌, map, replicate, Option, Some, None}
+use Rattle.std.specs.Int.{w32, w64, to_be_bytes, to_le_bytes}
+use Rattle.std.specs.List.{flat_map, range_with_len}
+use Rattle.rand_chacha.specs.ChaCha.{word_at, key_of}
+use Rattle.client_tags.specs.declared.Kind.{Kind}
+use Rattle.nigori.specs.Sealing.{sealed, key_name}
+use Rattle.sync_values.specs.declared.value.Value.{Value}
+use Rattle.sync_values.specs.declared.value.Value.TheVariants.{Absent, Preference, Password, Nigori}
+use Rattle.sync_specifics.specs.declared.sealed.Sealed.{Sealed}
+use Rattle.sync_specifics.specs.declared.specifics.Specifics.{Specifics}
+use Rattle.sync_specifics.specs.declared.specifics.Specifics.TheVariants as specifics
+use Rattle.sync_specifics.specs.Keys.{keys_bytes}
+use Rattle.sync_specifics.specs.Logins.{login_bytes}
+use Rattle.sync_specifics.specs.Specifics.{specifics_bytes}
+use Rattle.sync_model.specs.declared.message.Draw.{Draw}
+
+-- the seed of the random streams: a run's seed as eight bytes, the highest first, and 24 zeros
+abbrev pub stream_seed : ℕ → List ℕ
+stream_seed seed = to_be_bytes w64 seed ++ replicate 24 0
+
+-- a word of a client's random stream, which is the ChaCha20 stream of the client's number
+abbrev pub drawn_word : ℕ → ℕ → ℕ → ℕ
+drawn_word seed client place = word_at 10 (key_of (stream_seed seed)) client place
+
+-- the initialization vector of a draw: the next four words of its client's stream, each from its lowest byte
+unfoldable pub vector_of : ℕ → Draw → List ℕ
+vector_of seed draw = flat_map (λ place. to_le_bytes w32 (drawn_word seed draw.client place)) (range_with_len (4 * draw.number) 4)
+
+-- a text that is sealed with a draw, beside the name of its key
+unfoldable pub text_of : ℕ → Draw → List ℕ → Sealed
+text_of seed draw plain = record { key_name = key_name draw.key; blob = sealed draw.key plain (vector_of seed draw) }
+
+-- A value as specifics that nothing seals: a preference, or of a deletion the type alone. A login and a profile's
+-- keys are never sent so, and show no more than their type.
+abbrev pub plain_specifics : Kind → Value → Specifics
+plain_specifics kind Absent = specifics.EmptyOf kind
+plain_specifics kind (Preference preference) = specifics.Preference preference
+plain_specifics kind (Password password) = specifics.EmptyOf kind
+plain_specifics kind (Nigori nigori) = specifics.EmptyOf kind
+
+-- A value as specifics that are sealed with a draw: of a preference its plain specifics, of a login its message, of a
+-- profile's keys all of them with their names. Nothing seals a deletion.
+unfoldable pub sealed_specifics : ℕ → Kind → Value → Draw → Specifics
+sealed_specifics seed kind Absent draw = specifics.EmptyOf kind
+sealed_specifics seed kind (Preference preference) draw =
+    specifics.SealedPreference (text_of seed draw (specifics_bytes (specifics.Preference preference)))
+sealed_specifics seed kind (Password password) draw = specifics.Password (text_of seed draw (login_bytes password))
+sealed_specifics seed kind (Nigori nigori) draw = specifics.Nigori (record {
+  bag = text_of seed draw (keys_bytes (map key_name nigori.keys) nigori.keys);
+  pass_kind = nigori.pass_kind;
+})
+
+-- a value as specifics, sealed with a draw if there is one
+abbrev pub specifics_of : ℕ → Kind → Value → Option Draw → Specifics
+specifics_of seed kind value None = plain_specifics kind value
+specifics_of seed kind value (Some draw) = sealed_specifics seed kind value draw
