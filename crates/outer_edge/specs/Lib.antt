@@ -1,4 +1,5 @@
 pub mod Faults
+pub mod Sides
 pub mod Source
 pub mod Sure
 pub mod Memory

@@ -73,3 +73,20 @@ after_refusal s = record {
   failing = s.failing;
   faults = counted s.faults;
 }
+
+-- a link: a source and a sink, whose calls are counted together
+pub record LinkState : Type 0 where
+  pub source : SourceState
+  pub sink : SinkState
+
+-- a link before its first call
+abbrev pub new_link : List ℕ → ℕ → List ℕ → LinkState
+new_link bytes room failing = record { source = new_source bytes failing; sink = new_sink room failing }
+
+-- a call of the source made this of it; the sink counts the call
+abbrev pub after_reading : SourceState → LinkState → LinkState
+after_reading source link = record { source = source; sink = record link.sink { calls = counted link.sink.calls } }
+
+-- a call of the sink made this of it; the source counts the call
+abbrev pub after_writing : SinkState → LinkState → LinkState
+after_writing sink link = record { source = record link.source { calls = counted link.source.calls }; sink = sink }

@@ -1,11 +1,12 @@
 //! The outside world of the program: bytes that come, bytes that go, and counts of faults.
 //!
-//! A [`Source`] gives bytes and a [`Sink`] takes them. Each has a count of its faults, which never falls: a call
-//! fails only where the count rose. So a caller can tell a fault of the outside from one of its own.
+//! A [`Source`] gives bytes, a [`Sink`] takes them, and a [`Link`] does both. Each has a count of its faults, which
+//! never falls: a call fails only where the count rose. So a caller can tell a fault of the outside from one of its own.
 #![tactic(auto)]
 
 mod calls;
 mod faults;
+mod link;
 mod memory;
 mod retried;
 mod sink;
@@ -16,7 +17,8 @@ mod words;
 
 pub use calls::{CallCounts, CallFault, InputCalls, OutputCalls, fault_of};
 pub use faults::{Failed, NoMemory};
-pub use memory::{MemorySink, MemorySource};
+pub use link::Link;
+pub use memory::{MemoryLink, MemorySink, MemorySource};
 pub use retried::Retried;
 pub use sink::{Sink, WriteFault, write_whole};
 pub use source::{ReadEnd, Source, read_up_to};

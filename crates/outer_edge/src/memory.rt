@@ -1,10 +1,14 @@
 ghost use Rattle.std.specs.Prelude.{◌≡◌, ◌-◌, ◌↔◌, length, take, drop, min, Some, IsErr, IfOk, OnErr};
-ghost use Rattle.outer_edge.specs.Faults.{NeverFalls};
+ghost use Rattle.outer_edge.specs.Faults.{NeverFalls, counted};
 ghost use Rattle.outer_edge.specs.Memory.{new_source, FailsNext, after_giving, after_fault, new_sink, Refuses, after_taking, after_refusal};
 
 use crate::{Failed, NoMemory, Sink, Source, SureSource};
 use std::alloc::Global;
 use std::marker::Model;
+
+mod link;
+
+pub use link::MemoryLink;
 
 /// A source over bytes in memory, whose calls fail where it was told to. The first call is number 1.
 #[derive(Debug, Drop)]
@@ -46,6 +50,15 @@ impl MemorySource {
         ensures { result.now ≡ self.now.came }
     {
         self.source.came()
+    }
+}
+
+impl MemorySource {
+    // A call that it is to count, and that is not its own.
+    fn count_call(&mut self)
+        ensures { self.new ≡ record self.old { calls = counted self.old.calls } }
+    {
+        self.calls = self.calls.saturating_add(1);
     }
 }
 
@@ -121,6 +134,15 @@ impl MemorySink {
         ensures { result.now ≡ self.now.taken }
     {
         &self.bytes
+    }
+}
+
+impl MemorySink {
+    // A call that it is to count, and that is not its own.
+    fn count_call(&mut self)
+        ensures { self.new ≡ record self.old { calls = counted self.old.calls } }
+    {
+        self.calls = self.calls.saturating_add(1);
     }
 }
 

@@ -1,5 +1,6 @@
 ghost use Rattle.std.specs.Prelude.{◌≡◌, ◌<◌, ◌≤◌, ℕ, List, length, take, IfOk, IfErr, OnOk, OnErr, Option};
 ghost use Rattle.outer_edge.specs.Faults.{Rose, NeverFalls};
+ghost use Rattle.outer_edge.specs.Sides.{SourceSide, no_source};
 ghost use Rattle.outer_edge.specs.Source.{Grew};
 
 use crate::Failed;
@@ -13,6 +14,9 @@ pub trait Sink {
     /// How often the outside has failed. At 2^64 - 1 it stays.
     ghost faults: { Self → ℕ };
 
+    /// What it says as a source, where it is one too.
+    ghost as_source: { Self → SourceSide } = { λ _. no_source };
+
     /// Takes bytes at the front of the piece, and says how many: at least one, where there is one.
     fn write(&mut self, piece: &[u8]) -> Result<usize, Failed>
         ensures fits { IfOk result (λ count. count ≤ length piece.now) }
@@ -22,7 +26,8 @@ pub trait Sink {
 
         ensures failed { OnErr result (Rose (faults self.old) (faults self.new)) }
         ensures none_taken { OnErr result (taken self.new ≡ taken self.old) }
-        ensures never_falls { NeverFalls (faults self.old) (faults self.new) };
+        ensures never_falls { NeverFalls (faults self.old) (faults self.new) }
+        ensures source_kept { as_source self.new ≡ as_source self.old };
 }
 
 /// A sink failed, after it took this many bytes of the whole.
@@ -42,6 +47,7 @@ pub fn write_whole<O: Sink>(sink: &mut O, bytes: &[u8]) -> Result<(), WriteFault
     ensures cut_short { IfErr result (λ fault. fault.written < length bytes.now) }
     ensures failed { OnErr result (Rose (O.faults sink.old) (O.faults sink.new)) }
     ensures never_falls { NeverFalls (O.faults sink.old) (O.faults sink.new) }
+    ensures source_kept { O.as_source sink.new ≡ O.as_source sink.old }
 {
     let mut written = 0;
     while written < bytes.len() {

@@ -1,6 +1,7 @@
 ghost use Rattle.std.specs.Prelude.{◌≡◌, ◌+◌, ◌-◌, ◌^◌, ◌<◌, ◌≤◌, ℕ, List, length, take, drop, IfOk, IfErr, OnOk, OnErr, Option, IfSome};
 ghost use Rattle.outer_edge.specs.Faults.{Rose, NeverFalls};
 ghost use Rattle.outer_edge.specs.Source.{Gave, GaveUpTo, GaveCount, GaveOnto, IsAtEnd, IsAllOf, HasCause, IfTooBig, IfNoMemory};
+ghost use Rattle.outer_edge.specs.Sides.{SinkSide, no_sink};
 ghost use Rattle.outer_edge.specs.declared.source.ReadEnd.TheVariants.{NoMemory as OutOfMemory};
 
 use crate::Failed;
@@ -21,6 +22,9 @@ pub trait Source {
     /// How often the outside has failed. At 2^64 - 1 it stays.
     ghost faults: { Self → ℕ };
 
+    /// What it says as a sink, where it is one too.
+    ghost as_sink: { Self → SinkSide } = { λ _. no_sink };
+
     /// Gives the next bytes at the front of the room, and says how many. None in a room that is not empty
     /// means that there are no more. After an `Err` the room may hold anything.
     fn read(&mut self, room: &mut [u8]) -> Result<usize, Failed>
@@ -33,7 +37,8 @@ pub trait Source {
         ensures failed { OnErr result (Rose (faults self.old) (faults self.new)) }
         ensures none_lost { OnErr result (left self.new ≡ left self.old) }
         ensures none_came { OnErr result (came self.new ≡ came self.old) }
-        ensures never_falls { NeverFalls (faults self.old) (faults self.new) };
+        ensures never_falls { NeverFalls (faults self.old) (faults self.new) }
+        ensures sink_kept { as_sink self.new ≡ as_sink self.old };
 }
 
 /// Why `read_up_to` gave no bytes.
@@ -92,6 +97,7 @@ pub fn read_up_to<S: Source>(alloc: Global, source: &mut S, limit: u64) -> Resul
     ensures cause { IfErr result (λ end. HasCause end (S.faults source.old) (S.faults source.new)) }
     ensures gave_some { GaveUpTo S.left S.came source.old source.new (limit + 1) }
     ensures never_falls { NeverFalls (S.faults source.old) (S.faults source.new) }
+    ensures sink_kept { S.as_sink source.new ≡ S.as_sink source.old }
 {
     let mut bytes = Vec::new(alloc);
     while read_piece(source, &mut bytes, limit)? > 0 {}
@@ -117,6 +123,7 @@ fn read_piece<S: Source>(source: &mut S, bytes: &mut Vec<u8>, limit: u64) -> Res
     ensures cause { IfErr result (λ end. HasCause end (S.faults source.old) (S.faults source.new)) }
     ensures gave_some { GaveUpTo S.left S.came source.old source.new (limit + 1 - length bytes.old.items) }
     ensures never_falls { NeverFalls (S.faults source.old) (S.faults source.new) }
+    ensures sink_kept { S.as_sink source.new ≡ S.as_sink source.old }
 {
     let wanted = limit + 1 - bytes.len() as u64;
     let mut buffer = [0; ROOM];

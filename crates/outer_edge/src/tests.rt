@@ -80,6 +80,39 @@ fn a_sure_sink_takes_all(rt: HostRuntime) {
     assert_eq!(rt; write_whole(&mut sink, b"abc"), Ok(()));
 }
 
+// Reads a link to its end, and answers with what it read.
+fn answer<L: Link>(alloc: std::alloc::Global, link: &mut L) -> Result<usize, Fail> {
+    let bytes = read_up_to(alloc, link, 100)?;
+    write_whole(link, &bytes)?;
+    Ok(bytes.len())
+}
+
+#[test]
+fn a_link_gives_its_bytes_and_takes_others(rt: HostRuntime) -> Result<(), Fail> {
+    let alloc = rt.alloc();
+    let mut link = MemoryLink::new(alloc, b"abc".to_vec(alloc)?, 5, Vec::new(alloc))?;
+    assert_eq!(rt; answer(alloc, &mut link)?, 3);
+    assert_eq!(rt; link.came(), b"abc".as_slice());
+    assert_eq!(rt; link.taken(), b"abc".as_slice());
+    Ok(())
+}
+
+#[test]
+fn the_calls_of_both_sides_of_a_link_are_numbered_together(rt: HostRuntime) -> Result<(), Fail> {
+    let alloc = rt.alloc();
+    let failing = [3].to_vec(alloc)?;
+    let mut link = MemoryLink::new(alloc, b"abc".to_vec(alloc)?, 5, failing)?;
+    let mut room = [0; 2];
+    assert_eq!(rt; link.read(&mut room), Ok(2));
+    assert_eq!(rt; link.write(b"de"), Ok(2));
+    assert_eq!(rt; link.read(&mut room), Err(Failed));
+    assert_eq!(rt; link.write(b"fghi"), Ok(3));
+    assert_eq!(rt; link.read(&mut room), Ok(1));
+    assert_eq!(rt; link.came(), b"abc".as_slice());
+    assert_eq!(rt; link.taken(), b"defgh".as_slice());
+    Ok(())
+}
+
 #[test]
 fn words_stay_in_order(rt: HostRuntime) -> Result<(), Fail> {
     let mut words = Words::new(rt.alloc());

@@ -9,4 +9,5 @@ loop-written-preserved g c = record {
   in_bytes = grind (arith, common_steps);
   took = Grew-next _ _ _ _ _ _ c.loop-written.invariant.in_bytes c.loop-written.invariant.took c.in-Ok.ensures.took;
   no_fault = search rules;
+  source_kept = search rules;
 }

@@ -1,0 +1,9 @@
+pub mod Faults
+pub mod Heads
+pub mod Fields
+pub mod Requests
+pub mod Replies
+pub mod Incoming
+pub mod Messages
+pub mod Written
+pub mod Laws
