@@ -1,0 +1,5 @@
+mod Trails
+mod Keeping
+mod Replays
+mod Acting
+mod Quantifiers
