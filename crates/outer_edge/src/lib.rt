@@ -1,4 +1,4 @@
-//! The outside world of the program: bytes that come, bytes that go, and counts of faults.
+//! The outside world of the program: bytes that come, bytes that go, draws, and counts of faults.
 //!
 //! A [`Source`] gives bytes, a [`Sink`] takes them, and a [`Link`] does both. Each has a count of its faults, which
 //! never falls: a call fails only where the count rose. So a caller can tell a fault of the outside from one of its own.
@@ -24,6 +24,7 @@ pub use sink::{Sink, WriteFault, write_whole};
 pub use source::{ReadEnd, Source, read_up_to};
 pub use standard::{PrinterCalls, ReaderCalls, StandardInput, StandardOutput};
 pub use sure::{SureSink, SureSource};
+pub use random_vectors::{Dice, SeedDice};
 pub use words::Words;
 
 #[cfg(test)]

@@ -1,5 +1,5 @@
 pub mod NoExtra
-pub mod VectorRows
+pub mod SeedRows
 mod Formed
 mod ToldBack
 pub mod PlainEntries

@@ -1,8 +1,7 @@
 -- What the specifics of an entry are: plain, or sealed with its draw. A run's seed gives the vectors of all draws.
-use Rattle.std.specs.Prelude.{ℕ, ◌+◌, ◌*◌, List, [], ◌∷◌, ◌++◌, map, replicate, Option, Some, None}
-use Rattle.std.specs.Int.{w32, w64, to_be_bytes, to_le_bytes}
-use Rattle.std.specs.List.{flat_map, range_with_len}
-use Rattle.rand_chacha.specs.ChaCha.{word_at, key_of}
+use Rattle.std.specs.Prelude.{ℕ, List, ◌++◌, map, replicate, Option, Some, None}
+use Rattle.std.specs.Int.{w64, to_be_bytes}
+use Rattle.random_vectors.specs.Vectors.{Place, vector_at}
 use Rattle.client_tags.specs.declared.Kind.{Kind}
 use Rattle.nigori.specs.Sealing.{sealed, key_name}
 use Rattle.sync_values.specs.declared.value.Value.{Value}
@@ -19,13 +18,13 @@ use Rattle.sync_model.specs.declared.message.Draw.{Draw}
 abbrev pub stream_seed : ℕ → List ℕ
 stream_seed seed = to_be_bytes w64 seed ++ replicate 24 0
 
--- a word of a client's random stream, which is the ChaCha20 stream of the client's number
-abbrev pub drawn_word : ℕ → ℕ → ℕ → ℕ
-drawn_word seed client place = word_at 10 (key_of (stream_seed seed)) client place
+-- where a draw stands: in the stream of its client's number, by its number there
+abbrev pub place_of : ℕ → Draw → Place
+place_of seed draw = record { seed = stream_seed seed; stream = draw.client; drawn = draw.number }
 
--- the initialization vector of a draw: the next four words of its client's stream, each from its lowest byte
-unfoldable pub vector_of : ℕ → Draw → List ℕ
-vector_of seed draw = flat_map (λ place. to_le_bytes w32 (drawn_word seed draw.client place)) (range_with_len (4 * draw.number) 4)
+-- the initialization vector of a draw
+abbrev pub vector_of : ℕ → Draw → List ℕ
+vector_of seed draw = vector_at (place_of seed draw)
 
 -- a text that is sealed with a draw, beside the name of its key
 unfoldable pub text_of : ℕ → Draw → List ℕ → Sealed
