@@ -18,7 +18,8 @@ place_within drawn step below few = mod-eq_of_lt (omega (arith, below, few))
 -- the place of the next word within a vector
 place_after : (drawn step : ℕ) → drawn < 2 ^ 66 → step < 3 → (4 * drawn + step + 1) % 2 ^ 68 ≡ 4 * drawn + (step + 1)
 place_after drawn step below few =
-    ap (λ n. n % 2 ^ 68) {y = 4 * drawn + (step + 1)} (omega arith) ∙ place_within drawn (step + 1) below (omega (arith, few))
+    ap (λ n. n % 2 ^ 68) {y = 4 * drawn + (step + 1)} (omega arith)
+    ∙ place_within drawn (step + 1) below (omega (arith, few))
 
 -- behind a vector the stream goes on with the next one, or begins anew
 place_behind : (drawn : ℕ) → drawn < 2 ^ 66 → (4 * drawn + 3 + 1) % 2 ^ 68 ≡ 4 * ((drawn + 1) % 2 ^ 66)
@@ -34,10 +35,12 @@ place_behind drawn below =
 
 -- the bytes of four words at these places, which follow each other
 four_words : (g : ChaCha) (second third fourth behind : ℕ)
-    → (g.word_pos + 1) % 2 ^ 68 ≡ second → (second + 1) % 2 ^ 68 ≡ third → (third + 1) % 2 ^ 68 ≡ fourth → (fourth + 1) % 2 ^ 68 ≡ behind
+    → (g.word_pos + 1) % 2 ^ 68 ≡ second → (second + 1) % 2 ^ 68 ≡ third
+    → (third + 1) % 2 ^ 68 ≡ fourth → (fourth + 1) % 2 ^ 68 ≡ behind
     → word_bytes (to_le_bytes w32) (next_word 10) 4 g
     ≡ (
-      (((([] ++ to_le_bytes w32 (word_at 10 g.key g.stream g.word_pos)) ++ to_le_bytes w32 (word_at 10 g.key g.stream second))
+      (((([] ++ to_le_bytes w32 (word_at 10 g.key g.stream g.word_pos))
+          ++ to_le_bytes w32 (word_at 10 g.key g.stream second))
           ++ to_le_bytes w32 (word_at 10 g.key g.stream third)) ++ to_le_bytes w32 (word_at 10 g.key g.stream fourth)),
       record { key = g.key; stream = g.stream; word_pos = behind },
     )
@@ -66,14 +69,17 @@ vector_words place =
     vector_steps place ∙ ap₂ (λ third fourth. bytes_of place (4 * place.drawn) (4 * place.drawn + 1) third fourth)
     {y = 4 * place.drawn + 2} {v = 4 * place.drawn + 3} (omega arith) (omega arith)
 
-pub is_vector : (place : Place) → place.drawn < 2 ^ 66 → fill_via_u32 (next_word 10) 16 (words_at place) ≡ (vector_at place, words_at (after_draw place))
+pub is_vector : (place : Place) → place.drawn < 2 ^ 66
+    → fill_via_u32 (next_word 10) 16 (words_at place) ≡ (vector_at place, words_at (after_draw place))
 is_vector place below =
-    ap (λ all. (take 16 all.0, all.1)) (four_words (words_at place) (4 * place.drawn + 1) (4 * place.drawn + 2) (4 * place.drawn + 3) (4 * ((place.drawn + 1) % 2 ^ 66))
+    ap (λ all. (take 16 all.0, all.1)) (four_words (words_at place) (4 * place.drawn + 1) (4 * place.drawn + 2)
+    (4 * place.drawn + 3) (4 * ((place.drawn + 1) % 2 ^ 66))
     (place_within place.drawn 1 below (omega arith)) (place_after place.drawn 1 below (omega arith))
     (place_after place.drawn 2 below (omega arith)) (place_behind place.drawn below))
     ∙ ap (λ vector. (vector, words_at (after_draw place))) (sym (vector_words place))
 
 -- what is drawn of a generator that stands at a place
-pub drawn_at : (place : Place) (words : ChaCha) (drawn : List ℕ × ChaCha) → place.drawn < 2 ^ 66 → words ≡ words_at place
-    → drawn ≡ fill_via_u32 (next_word 10) 16 words → drawn ≡ (vector_at place, words_at (after_draw place))
-drawn_at place words drawn below here filled = filled ∙ ap (fill_via_u32 (next_word 10) 16) here ∙ is_vector place below
+pub drawn_at : (place : Place) (words : ChaCha) (drawn : List ℕ × ChaCha) → place.drawn < 2 ^ 66
+    → words ≡ words_at place → drawn ≡ fill_via_u32 (next_word 10) 16 words → drawn ≡ (vector_at place, words_at (after_draw place))
+drawn_at place words drawn below here filled =
+    filled ∙ ap (fill_via_u32 (next_word 10) 16) here ∙ is_vector place below

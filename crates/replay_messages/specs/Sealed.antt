@@ -1,5 +1,5 @@
 -- What the specifics of an entry are: plain, or sealed with its draw. A run's seed gives the vectors of all draws.
-use Rattle.std.specs.Prelude.{ℕ, List, ◌++◌, map, replicate, Option, Some, None}
+use Rattle.std.specs.Prelude.{ℕ, List, [], ◌++◌, map, replicate, Option, Some, None}
 use Rattle.std.specs.Int.{w64, to_be_bytes}
 use Rattle.random_vectors.specs.Vectors.{Place, vector_at}
 use Rattle.client_tags.specs.declared.Kind.{Kind}
@@ -38,17 +38,24 @@ plain_specifics kind (Preference preference) = specifics.Preference preference
 plain_specifics kind (Password password) = specifics.EmptyOf kind
 plain_specifics kind (Nigori nigori) = specifics.EmptyOf kind
 
--- A value as specifics that are sealed with a draw: of a preference its plain specifics, of a login its message, of a
--- profile's keys all of them with their names. Nothing seals a deletion.
+-- the text of a value that is sealed: of a preference its plain specifics, of a login its message, of a profile's keys
+-- all of them with their names; a deletion has none
+abbrev pub text_to_seal : Value → List ℕ
+text_to_seal Absent = []
+text_to_seal (Preference preference) = specifics_bytes (specifics.Preference preference)
+text_to_seal (Password password) = login_bytes password
+text_to_seal (Nigori nigori) = keys_bytes (map key_name nigori.keys) nigori.keys
+
+-- a value's specifics with its text sealed; nothing seals a deletion
+abbrev pub specifics_around : Kind → Value → Sealed → Specifics
+specifics_around kind Absent text = specifics.EmptyOf kind
+specifics_around kind (Preference preference) text = specifics.SealedPreference text
+specifics_around kind (Password password) text = specifics.Password text
+specifics_around kind (Nigori nigori) text = specifics.Nigori (record { bag = text; pass_kind = nigori.pass_kind })
+
+-- a value as specifics that are sealed with a draw
 unfoldable pub sealed_specifics : ℕ → Kind → Value → Draw → Specifics
-sealed_specifics seed kind Absent draw = specifics.EmptyOf kind
-sealed_specifics seed kind (Preference preference) draw =
-    specifics.SealedPreference (text_of seed draw (specifics_bytes (specifics.Preference preference)))
-sealed_specifics seed kind (Password password) draw = specifics.Password (text_of seed draw (login_bytes password))
-sealed_specifics seed kind (Nigori nigori) draw = specifics.Nigori (record {
-  bag = text_of seed draw (keys_bytes (map key_name nigori.keys) nigori.keys);
-  pass_kind = nigori.pass_kind;
-})
+sealed_specifics seed kind value draw = specifics_around kind value (text_of seed draw (text_to_seal value))
 
 -- a value as specifics, sealed with a draw if there is one
 abbrev pub specifics_of : ℕ → Kind → Value → Option Draw → Specifics
