@@ -2,6 +2,7 @@
 use super::*;
 use std::test::Fail;
 
+mod nets;
 mod system_calls;
 
 // A source of these many bytes, which count up.
