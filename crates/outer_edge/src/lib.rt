@@ -5,21 +5,26 @@
 //! where the count rose. So a caller can tell a fault of the outside from one of its own.
 #![tactic(auto)]
 
+mod buffered;
 mod calls;
 mod faults;
 mod link;
+mod loopback;
 mod memory;
 mod net;
 mod retried;
 mod sink;
 mod source;
 mod standard;
+mod stream;
 mod sure;
 mod words;
 
+pub use buffered::Buffered;
 pub use calls::{CallCounts, CallFault, InputCalls, OutputCalls, fault_of};
 pub use faults::{Failed, NoMemory};
 pub use link::Link;
+pub use loopback::{LoopbackDoor, LoopbackLink, LoopbackNet};
 pub use memory::{MemoryDoor, MemoryLink, MemoryNet, MemorySink, MemorySource};
 pub use net::{Door, Net};
 pub use random_vectors::{Dice, SeedDice};
@@ -27,6 +32,7 @@ pub use retried::Retried;
 pub use sink::{Sink, WriteFault, write_whole};
 pub use source::{ReadEnd, Source, read_up_to};
 pub use standard::{PrinterCalls, ReaderCalls, StandardInput, StandardOutput};
+pub use stream::StreamCalls;
 pub use sure::{SureSink, SureSource};
 pub use words::Words;
 

@@ -2,6 +2,7 @@
 use super::*;
 use std::test::Fail;
 
+mod loopback;
 mod nets;
 mod system_calls;
 
