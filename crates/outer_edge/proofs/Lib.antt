@@ -1,2 +1,3 @@
 pub mod Told
 pub mod Interruptions
+pub mod Fronts

@@ -1,5 +1,5 @@
 -- Counts of the faults of the outside.
-use Rattle.std.specs.Prelude.{ℕ, ◌+◌, ◌-◌, ◌^◌, ◌<◌, ◌≤◌, ◌⊎◌, min}
+use Rattle.std.specs.Prelude.{ℕ, ◌+◌, ◌-◌, ◌^◌, ◌<◌, ◌≤◌, ◌⊎◌, Bool, cond, min}
 
 -- the last value of a count, where it stays
 abbrev pub last_count : ℕ
@@ -16,3 +16,7 @@ NeverFalls before now = before ≤ now
 -- a count with one more; at its last value it stays
 abbrev pub counted : ℕ → ℕ
 counted count = min (count + 1) last_count
+
+-- a count with one more where this is so
+abbrev pub counted_where : Bool → ℕ → ℕ
+counted_where is_so count = cond is_so (counted count) count

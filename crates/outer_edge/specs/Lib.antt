@@ -4,3 +4,5 @@ pub mod Source
 pub mod Sure
 pub mod Memory
 pub mod Calls
+pub mod Nets
+pub mod MemoryNets

@@ -1,3 +1,8 @@
+//! That the outside failed, or that memory ran out.
+ghost use Rattle.std.specs.Prelude.{◌≡◌};
+ghost use Rattle.outer_edge.specs.Faults.{NeverFalls, counted_where};
+ghost use Rattle.outer_edge.specs.Nets.{RaisedWhere};
+
 use std::alloc::{AllocError, AllocFailed};
 use thiserror::Error;
 
@@ -20,5 +25,18 @@ impl From<AllocError> for NoMemory {
 impl<T: Drop> From<AllocFailed<T>> for NoMemory {
     fn from(_: AllocFailed<T>) -> Self {
         NoMemory
+    }
+}
+
+// How often something has come back with a fault, where it has come back with one or not.
+pub(crate) fn counted_if(has_fault: bool, count: u64) -> u64
+    ensures value { result ≡ counted_where has_fault count }
+    ensures raised { RaisedWhere has_fault count result }
+    ensures never_falls { NeverFalls count result }
+{
+    if has_fault {
+        count.saturating_add(1)
+    } else {
+        count
     }
 }

@@ -6,9 +6,15 @@ use crate::{Failed, NoMemory, Sink, Source, SureSource};
 use std::alloc::Global;
 use std::marker::Model;
 
+mod backlog;
+mod door;
 mod link;
+mod net;
+mod past;
 
+pub use door::MemoryDoor;
 pub use link::MemoryLink;
+pub use net::MemoryNet;
 
 /// A source over bytes in memory, whose calls fail where it was told to. The first call is number 1.
 #[derive(Debug, Drop)]

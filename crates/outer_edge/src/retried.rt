@@ -4,6 +4,9 @@ ghost use Rattle.std.specs.Prelude.{◌≡◌};
 mod input;
 mod output;
 
+pub(crate) use input::read_retried;
+pub(crate) use output::write_retried;
+
 // How often a call is made at most, each time interrupted.
 const TRIES: u64 = u64::MAX;
 

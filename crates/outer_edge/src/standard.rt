@@ -16,18 +16,24 @@ impl<R> Retried<ReaderCalls<R>> {
     pub fn new(reader: R) -> Self
         ensures { result.faults ≡ 0 }
     {
-        Retried::over(ReaderCalls {
-            reader,
-            counts: CallCounts::new(),
-        })
+        Retried::over(ReaderCalls::over(reader))
     }
 }
 
 /// The calls of a reader of the system's. That the bytes are those that the system gives is trusted.
 #[derive(Drop)]
 pub struct ReaderCalls<R> {
-    reader: R,
+    pub(crate) reader: R,
     counts: CallCounts,
+}
+
+impl<R> ReaderCalls<R> {
+    pub(crate) fn over(reader: R) -> Self {
+        ReaderCalls {
+            reader,
+            counts: CallCounts::new(),
+        }
+    }
 }
 
 impl<R: Read> InputCalls for ReaderCalls<R> {
@@ -105,7 +111,7 @@ impl<P: Print> OutputCalls for PrinterCalls<'_, P> {
 }
 
 // What a call is that the system answered so.
-fn taken_of(answer: io::Result<usize>, piece: &[u8]) -> Result<usize, CallFault>
+pub(crate) fn taken_of(answer: io::Result<usize>, piece: &[u8]) -> Result<usize, CallFault>
     ensures { MatchResult answer
         (λ count. IsTakenOf count piece.now result)
         (λ error. IsErrAnd result (λ fault. IsFaultOf (error_kind error) fault)) }

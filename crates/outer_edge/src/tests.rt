@@ -2,6 +2,8 @@
 use super::*;
 use std::test::Fail;
 
+mod loopback;
+mod nets;
 mod system_calls;
 
 // A source of these many bytes, which count up.

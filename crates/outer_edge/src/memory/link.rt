@@ -1,7 +1,8 @@
 //! A link over memory.
-ghost use Rattle.std.specs.Prelude.{◌≡◌, ◌-◌, ◌↔◌, length, take, drop, min, IsErr, IfOk, OnErr};
+ghost use Rattle.std.specs.Prelude.{◌≡◌, ◌-◌, ◌↔◌, length, take, drop, min, IsTrue, IsErr, IfOk, OnErr};
 ghost use Rattle.outer_edge.specs.Faults.{NeverFalls};
 ghost use Rattle.outer_edge.specs.Memory.{new_link, FailsNext, after_giving, after_fault, Refuses, after_taking, after_refusal, after_reading, after_writing};
+ghost use Rattle.outer_edge.specs.MemoryNets.{is_faulty, IsUnused};
 
 use crate::{Failed, Link, MemorySink, MemorySource, NoMemory, Sink, Source};
 use std::alloc::Global;
@@ -50,6 +51,20 @@ impl MemoryLink {
         ensures { result.now ≡ self.now.sink.taken }
     {
         self.sink.taken()
+    }
+
+    /// Whether a call of it has failed.
+    pub fn has_fault(&self) -> bool
+        ensures { result ≡ is_faulty self.now }
+    {
+        self.source.faults > 0 || self.sink.faults > 0
+    }
+
+    /// Whether nothing has come or was taken, and no call has failed.
+    pub fn is_unused(&self) -> bool
+        ensures { IsTrue result ↔ IsUnused self.now }
+    {
+        self.came().is_empty() && self.taken().is_empty() && !self.has_fault()
     }
 }
 

@@ -40,7 +40,7 @@ impl<C: InputCalls> Source for Retried<C> {
 }
 
 // One call that is not interrupted.
-fn read_retried<C: InputCalls>(calls: &mut C, room: &mut [u8]) -> Result<usize, Failed>
+pub(crate) fn read_retried<C: InputCalls>(calls: &mut C, room: &mut [u8]) -> Result<usize, Failed>
     ensures fits { IfOk result (λ count. count ≤ length room.old) }
     ensures front { IfOk result (λ count. Gave C.left C.came calls.old calls.new (take count room.new)) }
     ensures rest_of_room { IfOk result (λ count. drop count room.new ≡ drop count room.old) }

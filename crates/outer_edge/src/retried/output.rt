@@ -36,7 +36,7 @@ impl<C: OutputCalls> Sink for Retried<C> {
 }
 
 // One call that is not interrupted.
-fn write_retried<C: OutputCalls>(calls: &mut C, piece: &[u8]) -> Result<usize, Failed>
+pub(crate) fn write_retried<C: OutputCalls>(calls: &mut C, piece: &[u8]) -> Result<usize, Failed>
     ensures fits { IfOk result (λ count. count ≤ length piece.now) }
     ensures took { IfOk result (λ count. Grew (C.taken calls.old) (C.taken calls.new) (take count piece.now)) }
     ensures goes_on { IfOk result (λ count. 0 < length piece.now → 0 < count) }
