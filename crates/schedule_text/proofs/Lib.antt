@@ -12,6 +12,11 @@ pub mod Refusing
 pub mod OneLine
 pub mod RightLines
 pub mod OneCutting
+pub mod Answering
 pub mod TheLaws
 pub mod CanonicalEdits
 pub mod Printed
+pub mod ScriptLines
+pub mod ScriptReading
+pub mod ScriptLaws
+pub mod ScriptPrinted

@@ -18,7 +18,7 @@ use Rattle.schedule_text.specs.Grammar.{Slot, Fixed, Between, AnyText, change_fo
 use Rattle.schedule_text.specs.Faults.{IsFault, IsFaultAfter}
 use Rattle.schedule_text.specs.Reading.{BeginsOther, IsFaultIn, IsFaultThere, IsReading, IsSlotFault}
 use Rattle.schedule_text.specs.Refusals.{words_of}
-use Rattle.schedule_text.proofs.Forms.{all_fixed, begins_other, fault_cases, fault_in_after_word, fault_of_form, no_form, one_number_fault, one_text_fault, passed_at, tails}
+use Rattle.schedule_text.proofs.Forms.{all_fixed, begins_other, fault_cases, fault_in_after_word, fault_of_form, no_form, one_number_fault, passed_at, tails}
 use Rattle.schedule_text.proofs.Readings.{fault_of_same, no_space_by_test, reads_after}
 use Rattle.schedule_text.proofs.Words.{HasNoSpace, words_at_space}
 
@@ -45,10 +45,10 @@ unfolding line_words
 seed_read line word (Ok n) is read = ((read.0, read.1), ap (λ (ws : List (List ℕ)). codes "seed" ∷ ws) (is ∙ ap (λ (w : List ℕ). w ∷ []) read.2))
 seed_read line word (Err fault) is read = fault_of_same ((Between 1 MAX_SEED ∷ []) ∷ []) (words_of line) (word ∷ []) fault is (one_number_fault word 1 MAX_SEED fault read)
 
-pub pass_read : (line word : List ℕ) (r : Result (List ℕ) LineFault) → words_of line ≡ word ∷ [] → MatchResult r (λ text. AreBytes text × (word ≡ text_word text)) (λ fault. IsSlotFault AnyText word fault) → IsReading (codes "pass" ∷ []) ((AnyText ∷ []) ∷ []) AreBytes (λ pass. line_words (Pass pass)) (words_of line) r
+pub pass_read : (words : List (List ℕ)) (r : Result (List ℕ) LineFault) → MatchResult r (λ text. AreBytes text × (words ≡ text_word text ∷ [])) (λ fault. IsFaultIn ((AnyText ∷ []) ∷ []) words fault) → IsReading (codes "pass" ∷ []) ((AnyText ∷ []) ∷ []) AreBytes (λ pass. line_words (Pass pass)) words r
 unfolding line_words
-pass_read line word (Ok text) is read = (read.0, ap (λ (ws : List (List ℕ)). codes "pass" ∷ ws) (is ∙ ap (λ (w : List ℕ). w ∷ []) read.1))
-pass_read line word (Err fault) is read = fault_of_same ((AnyText ∷ []) ∷ []) (words_of line) (word ∷ []) fault is (one_text_fault word fault read)
+pass_read words (Ok text) read = (read.0, ap (λ (ws : List (List ℕ)). codes "pass" ∷ ws) read.1)
+pass_read words (Err fault) read = read
 
 -- the words of a line of a seed, and of one of a passphrase
 pub seed_words : (line rest : List ℕ) → line ≡ codes "seed" ++ 32 ∷ rest → words_of line ≡ codes "seed" ∷ words_of rest
@@ -101,7 +101,7 @@ unfolding forms_after
 pass_fault before line rest fault may is at = pass_at (may_seed before) (may_pass before) before.clients (length before.passes) line rest fault may is at
 
 -- faults where the same form is found
-same_form : (one other : List (List Slot)) (words : List (List ℕ)) (fault : LineFault) → form_of words other ≡ form_of words one → IsFaultIn one words fault → IsFaultIn other words fault
+pub same_form : (one other : List (List Slot)) (words : List (List ℕ)) (fault : LineFault) → form_of words other ≡ form_of words one → IsFaultIn one words fault → IsFaultIn other words fault
 same_form one other words (Bad reason) same fault =
     elim (fault_cases one words reason fault) [
       | inl none ↦ subst (IsFault other words) (sym none.1) (same ∙ none.0)
@@ -125,7 +125,7 @@ event_fault before line fault no_seed no_pass at =
     same_form forms (if_may (may_seed before) seed_form ++ if_may (may_pass before) pass_form ++ forms) (words_of line) fault (events_at (may_seed before) (may_pass before) forms line no_seed no_pass) at
 
 -- a fault of the words that a line has is one after what stands before
-pub fault_there : (before : Option Schedule) (words : List (List ℕ)) (fault : LineFault) → IsFaultIn (forms_after before) words fault → IsFaultThere before words fault
+pub fault_there : (before : Option Schedule) (words : List (List ℕ)) (fault : LineFault) → IsFaultIn (forms_after before) words fault → IsFaultThere (IsFaultAfter before) words fault
 fault_there before words (Bad Number) at = at
 fault_there before words (Bad Range) at = at
 fault_there before words (Bad Word) at = at

@@ -42,7 +42,7 @@ test_both : (a b : Bool) → (a && b) ≡ true → (a ≡ true) × (b ≡ true)
 test_both true b is = (refl, is)
 test_both false b is = absurd cc
 
-visible_by_test : (word : List ℕ) → visible_test word ≡ true → AreVisible word
+pub visible_by_test : (word : List ℕ) → visible_test word ≡ true → AreVisible word
 visible_by_test [] is = tt
 visible_by_test (byte ∷ word) is =
     let both = test_both (nat_le 33 byte) (visible_test word) is in
@@ -66,7 +66,7 @@ unfolding kept_word
 kept_visible true = visible_by_test (codes "kept") refl
 kept_visible false = visible_by_test (codes "lost") refl
 
-change_visible : (edit : Change) → IsChange edit → AllVisible (change_words edit)
+pub change_visible : (edit : Change) → IsChange edit → AllVisible (change_words edit)
 unfolding change_words
 change_visible (SetPreference p) is = (visible_by_test (codes "set") refl, (visible_by_test (codes "preference") refl, (word_is_visible p.name, (word_is_visible p.value, tt))))
 change_visible (NewerPreference p) is = (visible_by_test (codes "newer") refl, (visible_by_test (codes "preference") refl, (word_is_visible p.name, (word_is_visible p.value, (word_is_visible p.extra, tt)))))
@@ -108,7 +108,7 @@ no_space_in : (word : List ℕ) → AreVisible word → HasNoSpace word
 no_space_in [] is = tt
 no_space_in (byte ∷ word) is = (λ e. omega (arith, is.0, e), no_space_in word is.1)
 
-no_spaces_in : (words : List (List ℕ)) → AllVisible words → AllByRecursion HasNoSpace words
+pub no_spaces_in : (words : List (List ℕ)) → AllVisible words → AllByRecursion HasNoSpace words
 no_spaces_in [] is = tt
 no_spaces_in (word ∷ words) is = (no_space_in word is.0, no_spaces_in words is.1)
 
@@ -116,7 +116,7 @@ no_end_in_word : (word : List ℕ) → AreVisible word → HasNoEnd word
 no_end_in_word [] is = tt
 no_end_in_word (byte ∷ word) is = (λ e. omega (arith, is.0, e), no_end_in_word word is.1)
 
-no_end_in_words : (words : List (List ℕ)) → AllVisible words → HasNoEnd (join_with_byte 32 words)
+pub no_end_in_words : (words : List (List ℕ)) → AllVisible words → HasNoEnd (join_with_byte 32 words)
 no_end_in_words [] is = tt
 no_end_in_words (word ∷ []) is = no_end_in_word word is.0
 no_end_in_words (word ∷ next ∷ words) is =

@@ -50,7 +50,7 @@ newer_printed old head login new p head_is login_is new_is =
     ∙ ap (λ (t : List ℕ). old ++ (codes " newer password" ++ t)) (sym (flat_map-append f (login_words p) extra))
 
 -- words after a first one
-join_spaced : (word : List ℕ) (words : List (List ℕ)) → join_with_byte 32 (word ∷ words) ≡ word ++ spaced words
+pub join_spaced : (word : List ℕ) (words : List (List ℕ)) → join_with_byte 32 (word ∷ words) ≡ word ++ spaced words
 unfolding spaced
 join_spaced word [] = sym (append-nil word)
 join_spaced word (next ∷ words) = ap (λ (t : List ℕ). word ++ 32 ∷ t) (join_spaced next words)

@@ -41,6 +41,10 @@ pub one_number_read : (line word : List ℕ) (high : ℕ) (r : Result ℕ LineFa
 one_number_read line word high (Ok number) is read = (read.0, is ∙ ap (λ (w : List ℕ). w ∷ []) read.1)
 one_number_read line word high (Err fault) is read = subst (λ (ws : List (List ℕ)). IsFaultIn ((Between 1 high ∷ []) ∷ []) ws fault) (sym is) (one_number_fault word 1 high fault read)
 
+pub one_text_read : (line word : List ℕ) (r : Result (List ℕ) LineFault) → words_of line ≡ word ∷ [] → MatchResult r (λ text. AreBytes text × (word ≡ text_word text)) (λ fault. IsSlotFault AnyText word fault) → MatchResult r (λ text. AreBytes text × (words_of line ≡ text_word text ∷ [])) (λ fault. IsFaultIn ((AnyText ∷ []) ∷ []) (words_of line) fault)
+one_text_read line word (Ok text) is read = (read.0, is ∙ ap (λ (w : List ℕ). w ∷ []) read.1)
+one_text_read line word (Err fault) is read = subst (λ (ws : List (List ℕ)). IsFaultIn ((AnyText ∷ []) ∷ []) ws fault) (sym is) (one_text_fault word fault read)
+
 -- the faults of words that are others
 pub fault_of_same : (forms : List (List Slot)) (words others : List (List ℕ)) (fault : LineFault) → words ≡ others → IsFaultIn forms others fault → IsFaultIn forms words fault
 fault_of_same forms words others fault is other = subst (λ (ws : List (List ℕ)). IsFaultIn forms ws fault) (sym is) other

@@ -13,7 +13,7 @@ use Rattle.schedule_text.specs.declared.line.Line.TheVariants.{Clients}
 use Rattle.schedule_text.specs.Answers.{IsFaultOf}
 use Rattle.schedule_text.specs.Faults.{IsFaultAfter}
 use Rattle.schedule_text.specs.Grammar.{forms_after}
-use Rattle.schedule_text.specs.Lines.{line_text, line_words, lines_of, schedule_text, with_end}
+use Rattle.schedule_text.specs.Lines.{line_text, line_words, lines_of, schedule_text, with_end, words_text}
 use Rattle.schedule_text.specs.Places.{MayStand, after_line}
 use Rattle.schedule_text.specs.Reading.{IsCut, IsFaultIn, IsFaultNext, fault_at}
 use Rattle.schedule_text.specs.Refusals.{HasNoEnd, IsNoLine, IsRefused, IsWrongLine, words_of}
@@ -24,26 +24,30 @@ use Rattle.schedule_text.proofs.Scheduled.{first_is_schedule, first_text, stays_
 pub line_regrouped : (line rest : List ℕ) → with_end line ++ rest ≡ line ++ 10 ∷ rest
 line_regrouped line rest = append_assoc line (10 ∷ []) rest
 
+-- a text by the words of its first line
+pub words_text_is : (bytes line rest : List ℕ) (words : List (List ℕ)) → IsCut bytes 10 line rest → words_of line ≡ words → bytes ≡ words_text words ++ rest
+words_text_is bytes line rest words cut are =
+    cut.is_whole
+    ∙ ap (λ (l : List ℕ). l ++ 10 ∷ rest) (sym (joined line) ∙ ap (join_with_byte 32) are)
+    ∙ sym (line_regrouped (join_with_byte 32 words) rest)
+
 -- a text by its first line
 pub line_is : (bytes line rest : List ℕ) (said : Line) → IsCut bytes 10 line rest → words_of line ≡ line_words said → bytes ≡ line_text said ++ rest
 unfolding line_text
-line_is bytes line rest said cut words =
-    cut.is_whole
-    ∙ ap (λ (l : List ℕ). l ++ 10 ∷ rest) (sym (joined line) ∙ ap (join_with_byte 32) words)
-    ∙ sym (line_regrouped (join_with_byte 32 (line_words said)) rest)
+line_is bytes line rest said cut words = words_text_is bytes line rest (line_words said) cut words
 
-wrong_line : (before : Option Schedule) (rest line more : List ℕ) (reason : LineReason) → IsCut rest 10 line more → IsFaultAfter before (words_of line) reason → IsWrongLine before rest reason
-wrong_line before rest line more reason cut fault =
+pub wrong_line : (at_fault : List (List ℕ) → LineReason → Type 0) (rest line more : List ℕ) (reason : LineReason) → IsCut rest 10 line more → at_fault (words_of line) reason → IsWrongLine at_fault rest reason
+wrong_line at_fault rest line more reason cut fault =
     record { line = line; more = more; is_rest = cut.is_whole ∙ sym (line_regrouped line more); has_no_end = cut.is_first; is_fault = fault }
 
 no_line : (before : Option Schedule) (rest line more : List ℕ) (reason : LineReason) → IsCut rest 10 line more → IsFaultAfter before (words_of line) reason → IsNoLine before rest reason
 no_line before rest line more End cut fault = absurd fault
-no_line before rest line more Form cut fault = inr (wrong_line before rest line more Form cut fault)
-no_line before rest line more Number cut fault = wrong_line before rest line more Number cut fault
-no_line before rest line more Range cut fault = wrong_line before rest line more Range cut fault
-no_line before rest line more Word cut fault = wrong_line before rest line more Word cut fault
-no_line before rest line more Many cut fault = wrong_line before rest line more Many cut fault
-no_line before rest line more Later cut fault = wrong_line before rest line more Later cut fault
+no_line before rest line more Form cut fault = inr (wrong_line (IsFaultAfter before) rest line more Form cut fault)
+no_line before rest line more Number cut fault = wrong_line (IsFaultAfter before) rest line more Number cut fault
+no_line before rest line more Range cut fault = wrong_line (IsFaultAfter before) rest line more Range cut fault
+no_line before rest line more Word cut fault = wrong_line (IsFaultAfter before) rest line more Word cut fault
+no_line before rest line more Many cut fault = wrong_line (IsFaultAfter before) rest line more Many cut fault
+no_line before rest line more Later cut fault = wrong_line (IsFaultAfter before) rest line more Later cut fault
 
 -- ---- the first line
 
@@ -60,13 +64,13 @@ first_fault_at bytes line rest Word cut fault = fault
 first_fault_at bytes line rest Many cut fault = absurd fault
 first_fault_at bytes line rest Later cut fault = absurd fault
 
-first_fault : (bytes line rest : List ℕ) (fault : LineFault) → IsCut bytes 10 line rest → IsFaultIn (forms_after None) (words_of line) fault → IsFaultOf bytes (fault_at 1 fault)
+first_fault : (bytes line rest : List ℕ) (fault : LineFault) → IsCut bytes 10 line rest → IsFaultIn (forms_after None) (words_of line) fault → IsFaultOf (IsRefused bytes) (fault_at 1 fault)
 first_fault bytes line rest (Bad reason) cut fault =
     refused_at_first bytes reason (no_line None bytes line rest reason cut (first_fault_at bytes line rest reason cut fault))
 first_fault bytes line rest NoMemory cut fault = tt
 
-pub first_is_refused : (bytes line rest : List ℕ) (fault : LineFault) (told : ParseFault) → told ≡ fault_at 1 fault → IsCut bytes 10 line rest → IsFaultIn (forms_after None) (words_of line) fault → IsFaultOf bytes told
-first_is_refused bytes line rest fault told is cut at = subst (IsFaultOf bytes) (sym is) (first_fault bytes line rest fault cut at)
+pub first_is_refused : (bytes line rest : List ℕ) (fault : LineFault) (told : ParseFault) → told ≡ fault_at 1 fault → IsCut bytes 10 line rest → IsFaultIn (forms_after None) (words_of line) fault → IsFaultOf (IsRefused bytes) told
+first_is_refused bytes line rest fault told is cut at = subst (IsFaultOf (IsRefused bytes)) (sym is) (first_fault bytes line rest fault cut at)
 
 -- ---- the lines after
 
@@ -88,7 +92,7 @@ refused_next bytes rest before line reason read is no_line =
       is_no_line = no_line;
     }
 
-pub fault_next : (bytes rest line more : List ℕ) (before : Schedule) (fault : ParseFault) → IsRead bytes before rest → IsCut rest 10 line more → IsFaultNext before (words_of line) fault → IsFaultOf bytes fault
+pub fault_next : (bytes rest line more : List ℕ) (before : Schedule) (fault : ParseFault) → IsRead bytes before rest → IsCut rest 10 line more → IsFaultNext (IsFaultAfter (Some before)) (length (lines_of before)) (words_of line) fault → IsFaultOf (IsRefused bytes) fault
 fault_next bytes rest line more before (BadLine number reason) read cut fault =
     refused_next bytes rest before number reason read fault.0 (no_line (Some before) rest line more reason cut fault.1)
 fault_next bytes rest line more before WantsMemory read cut fault = tt

@@ -50,7 +50,7 @@ right_after_number : (low high : ℕ) (word : List ℕ) (words : List (List ℕ)
 right_after_number low high word words forms is right =
     record { form = Between low high ∷ right.form; is_form = found_number low high word words forms ∙ ap (option_map (λ form. Between low high ∷ form)) right.is_form; are_right = (is, right.are_right) }
 
-text_right : (text : List ℕ) → AreBytes text → IsTextWord (text_word text)
+pub text_right : (text : List ℕ) → AreBytes text → IsTextWord (text_word text)
 text_right text bytes = record { text = text; are_bytes = bytes; is_word = refl }
 
 up_to_right : (high n : ℕ) → high < 2 ^ 32 → IsUpTo high n → IsRight (Between 1 high) (decimal n)
@@ -66,7 +66,7 @@ extra_right kind extra bytes is = record { extra = extra; are_bytes = bytes; is_
 login_right : (p : Login) → IsLogin p → AreRight login_form (login_words p)
 login_right p is = (text_right p.origin is.0, (text_right p.user_element is.1, (text_right p.user_value is.2, (text_right p.pass_element is.3, (text_right p.realm is.4, (text_right p.secret is.5, (date_right p.created is.6, tt)))))))
 
-change_right : (edit : Change) → IsChange edit → HasRight change_forms (change_words edit)
+pub change_right : (edit : Change) → IsChange edit → HasRight change_forms (change_words edit)
 unfolding change_forms set_forms newer_forms delete_forms change_words
 change_right (SetPreference p) is =
     record { form = Fixed (codes "set") ∷ Fixed (codes "preference") ∷ AnyText ∷ AnyText ∷ []; is_form = refl; are_right = (refl, (refl, (text_right p.name is.0, (text_right p.value is.1, tt)))) }

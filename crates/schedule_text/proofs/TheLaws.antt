@@ -1,6 +1,5 @@
 -- A text spells one schedule at most, is refused at one line at most, and never both.
-use Rattle.std.proofs.Common.{◌≡◌, ◌≢◌, ◌⊎◌, inl, inr, ℕ, zero, suc, ◌+◌, ◌<◌, ◌≤◌, Bool, true, false, cond, ◌==◌, ◌&&◌, List, [], ◌∷◌, ◌++◌, length, map, Option, Some, None, Result, Ok, Err, refl, sym, ap, subst, ◌∙◌, arith, append_assoc, length-append}
-use Rattle.std.specs.Prelude.{MatchResult}
+use Rattle.std.proofs.Common.{◌≡◌, ◌≢◌, ◌⊎◌, inl, inr, ℕ, zero, suc, ◌+◌, ◌≤◌, Bool, true, false, cond, ◌==◌, ◌&&◌, List, [], ◌∷◌, ◌++◌, length, map, Option, Some, None, refl, sym, ap, subst, ◌∙◌, arith, append_assoc, length-append}
 use Rattle.std.specs.List.{AllByRecursion, flat_map}
 use Rattle.std.proofs.lemmas.Bool.{eq-eqb, eqb-true, eqb-false}
 use Rattle.std.proofs.lemmas.List.{append-nil}
@@ -8,18 +7,13 @@ use Rattle.sync_model.specs.declared.event.Event.{Event as Step}
 use Rattle.sync_model.specs.declared.event.Schedule.{Schedule}
 use Rattle.schedule_text.specs.declared.fault.LineReason.{LineReason}
 use Rattle.schedule_text.specs.declared.fault.LineReason.TheVariants.{End, Form, Number, Range, Word, Many, Later}
-use Rattle.schedule_text.specs.declared.fault.ParseFault.{ParseFault}
-use Rattle.schedule_text.specs.declared.fault.ParseFault.TheVariants.{BadLine, NoMemory}
 use Rattle.schedule_text.specs.declared.line.Line.{Line}
-use Rattle.schedule_text.specs.declared.line.Line.TheVariants.{Clients, Seed, Pass, Event}
-use Rattle.schedule_text.specs.Answers.{IsFaultOf, IsUnlessNoMemory}
+use Rattle.schedule_text.specs.declared.line.Line.TheVariants.{Clients, Seed, Event}
 use Rattle.schedule_text.specs.Faults.{IsFaultAfter}
-use Rattle.schedule_text.specs.Grammar.{may_seed}
 use Rattle.schedule_text.specs.Laws.{IsReadBack, RefusesNoSchedule, RefusesOneLine, SpellsOneSchedule}
 use Rattle.schedule_text.specs.Limits.{MAX_EVENTS, MAX_SEED}
-use Rattle.schedule_text.specs.Lines.{line_text, line_words, lines_of, schedule_text}
-use Rattle.schedule_text.specs.Places.{MayStand}
-use Rattle.schedule_text.specs.Refusals.{HasNoEnd, IsNoLine, IsRefused, IsWrongLine, SpellsBefore, lines_before, words_of}
+use Rattle.schedule_text.specs.Lines.{line_text, lines_of, schedule_text}
+use Rattle.schedule_text.specs.Refusals.{HasNoEnd, IsNoLine, IsWrongLine, SpellsBefore, lines_before, words_of}
 use Rattle.schedule_text.specs.Spelling.{IsBuilt, IsBuiltSchedule, IsEvent, IsSchedule, IsUpTo, Spells}
 use Rattle.schedule_text.proofs.Cuts.{cuts_same, no_cut}
 use Rattle.schedule_text.proofs.OneCutting.{CannotGoOn, IsSound, MayStandFrom, after_lines, cuttings_same, good_of, line_bytes, no_end_in_line, text_is, words_of_line}
@@ -94,14 +88,14 @@ front_of text (Some schedule) is =
 
 -- ---- where no more line may stand
 
-no_line_is_nothing : (line more : List ℕ) → [] ≢ line ++ 10 ∷ more
+pub no_line_is_nothing : (line more : List ℕ) → [] ≢ line ++ 10 ∷ more
 no_line_is_nothing [] more e = cc
 no_line_is_nothing (byte ∷ line) more e = cc
 
 nothing_ends : (before : Option Schedule) → CannotGoOn before []
 nothing_ends before line more e stands = no_line_is_nothing (line_bytes line) more (e ∙ text_is line more)
 
-wrong_ends : (before : Option Schedule) (rest : List ℕ) (reason : LineReason) → IsSound before → IsWrongLine before rest reason → CannotGoOn before rest
+wrong_ends : (before : Option Schedule) (rest : List ℕ) (reason : LineReason) → IsSound before → IsWrongLine (IsFaultAfter before) rest reason → CannotGoOn before rest
 wrong_ends before rest reason sound wrong line more e stands =
     let good = good_of before sound in
     let whole : wrong.line ++ 10 ∷ wrong.more ≡ line_bytes line ++ 10 ∷ more = sym (wrong.is_rest ∙ line_regrouped wrong.line wrong.more) ∙ e ∙ text_is line more in
@@ -109,7 +103,7 @@ wrong_ends before rest reason sound wrong line more e stands =
     standing_has_no_fault before line (words_of wrong.line) reason good stands (ap words_of same.0 ∙ words_of_line before line good stands.is_in_place) wrong.is_fault
 
 -- bytes without an end, or nothing in place of the first line, or a wrong line
-views : (before : Option Schedule) (rest : List ℕ) (reason : LineReason) → IsNoLine before rest reason → ((rest ≢ []) × HasNoEnd rest × (reason ≡ End)) ⊎ (((before ≡ None) × (rest ≡ []) × (reason ≡ Form)) ⊎ IsWrongLine before rest reason)
+views : (before : Option Schedule) (rest : List ℕ) (reason : LineReason) → IsNoLine before rest reason → ((rest ≢ []) × HasNoEnd rest × (reason ≡ End)) ⊎ (((before ≡ None) × (rest ≡ []) × (reason ≡ Form)) ⊎ IsWrongLine (IsFaultAfter before) rest reason)
 views before rest End is = inl (is.0, is.1, refl)
 views before rest Form (inl none) = inr (inl (none.0, none.1, refl))
 views before rest Form (inr wrong) = inr (inr wrong)
@@ -127,17 +121,18 @@ no_line_ends before rest reason sound no_line line more e stands =
       | inr (inr wrong) ↦ wrong_ends before rest reason sound wrong line more e stands
     ]
 
-wrong_has_end : (before : Option Schedule) (rest : List ℕ) (reason : LineReason) → HasNoEnd rest → IsWrongLine before rest reason → ⊥
-wrong_has_end before rest reason none wrong = no_cut 10 rest wrong.line wrong.more none (wrong.is_rest ∙ line_regrouped wrong.line wrong.more)
+pub wrong_has_end : (at_fault : List (List ℕ) → LineReason → Type 0) (rest : List ℕ) (reason : LineReason) → HasNoEnd rest → IsWrongLine at_fault rest reason → ⊥
+wrong_has_end at_fault rest reason none wrong = no_cut 10 rest wrong.line wrong.more none (wrong.is_rest ∙ line_regrouped wrong.line wrong.more)
 
-wrong_is_some : (before : Option Schedule) (rest : List ℕ) (reason : LineReason) → rest ≡ [] → IsWrongLine before rest reason → ⊥
-wrong_is_some before rest reason none wrong = no_line_is_nothing wrong.line wrong.more (sym none ∙ wrong.is_rest ∙ line_regrouped wrong.line wrong.more)
+pub wrong_is_some : (at_fault : List (List ℕ) → LineReason → Type 0) (rest : List ℕ) (reason : LineReason) → rest ≡ [] → IsWrongLine at_fault rest reason → ⊥
+wrong_is_some at_fault rest reason none wrong = no_line_is_nothing wrong.line wrong.more (sym none ∙ wrong.is_rest ∙ line_regrouped wrong.line wrong.more)
 
-wrong_reasons : (before : Option Schedule) (rest : List ℕ) (one other : LineReason) → IsSound before → IsWrongLine before rest one → IsWrongLine before rest other → one ≡ other
-wrong_reasons before rest one other sound p q =
+-- words are at fault for one reason, so a wrong line is
+pub wrong_reasons : (at_fault : List (List ℕ) → LineReason → Type 0) (rest : List ℕ) (one other : LineReason) → ((words : List (List ℕ)) → at_fault words one → at_fault words other → one ≡ other) → IsWrongLine at_fault rest one → IsWrongLine at_fault rest other → one ≡ other
+wrong_reasons at_fault rest one other same_reasons p q =
     let whole : p.line ++ 10 ∷ p.more ≡ q.line ++ 10 ∷ q.more = sym (p.is_rest ∙ line_regrouped p.line p.more) ∙ q.is_rest ∙ line_regrouped q.line q.more in
     let same = cuts_same 10 p.line p.more q.line q.more p.has_no_end q.has_no_end whole in
-    reasons_same before (words_of p.line) one other (good_of before sound) p.is_fault (subst (λ (l : List ℕ). IsFaultAfter before (words_of l) other) (sym same.0) q.is_fault)
+    same_reasons (words_of p.line) p.is_fault (subst (λ (l : List ℕ). at_fault (words_of l) other) (sym same.0) q.is_fault)
 
 -- a place is refused for one reason
 place_reasons : (before : Option Schedule) (rest : List ℕ) (one other : LineReason) → IsSound before → IsNoLine before rest one → IsNoLine before rest other → one ≡ other
@@ -146,17 +141,17 @@ place_reasons before rest one other sound p q =
       | inl ends ↦ elim (views before rest other q) [
         | inl too ↦ ends.2 ∙ sym too.2
         | inr (inl none) ↦ absurd (ends.0 none.1)
-        | inr (inr wrong) ↦ absurd (wrong_has_end before rest other ends.1 wrong)
+        | inr (inr wrong) ↦ absurd (wrong_has_end (IsFaultAfter before) rest other ends.1 wrong)
       ]
       | inr (inl none) ↦ elim (views before rest other q) [
         | inl ends ↦ absurd (ends.0 none.1)
         | inr (inl too) ↦ none.2 ∙ sym too.2
-        | inr (inr wrong) ↦ absurd (wrong_is_some before rest other none.1 wrong)
+        | inr (inr wrong) ↦ absurd (wrong_is_some (IsFaultAfter before) rest other none.1 wrong)
       ]
       | inr (inr wrong) ↦ elim (views before rest other q) [
-        | inl ends ↦ absurd (wrong_has_end before rest one ends.1 wrong)
-        | inr (inl none) ↦ absurd (wrong_is_some before rest one none.1 wrong)
-        | inr (inr too) ↦ wrong_reasons before rest one other sound wrong too
+        | inl ends ↦ absurd (wrong_has_end (IsFaultAfter before) rest one ends.1 wrong)
+        | inr (inl none) ↦ absurd (wrong_is_some (IsFaultAfter before) rest one none.1 wrong)
+        | inr (inr too) ↦ wrong_reasons (IsFaultAfter before) rest one other (λ words one_is other_is. reasons_same before words one other (good_of before sound) one_is other_is) wrong too
       ]
     ]
 
@@ -202,24 +197,10 @@ refuses_none text schedule line reason spells refused =
     elim (views refused.before refused.rest reason refused.is_no_line) [
       | inl ends ↦ ends.0 (sym same.rest_is)
       | inr (inl none) ↦ some_is_not_none schedule (same.before_is ∙ none.0)
-      | inr (inr wrong) ↦ wrong_is_some refused.before refused.rest reason (sym same.rest_is) wrong
+      | inr (inr wrong) ↦ wrong_is_some (IsFaultAfter refused.before) refused.rest reason (sym same.rest_is) wrong
     ]
 
 pub read_back : IsReadBack
 read_back schedule other right built =
     let spells : Spells (schedule_text schedule) schedule = record { is_text = refl; is_schedule = right; is_built = built } in
     (spells, λ too. spells_one (schedule_text schedule) schedule other spells too)
-
--- ---- the one right answer
-
-pub is_taken : (bytes : List ℕ) (r : Result Schedule ParseFault) → MatchResult r (λ schedule. Spells bytes schedule) (λ fault. IsFaultOf bytes fault) → (schedule : Schedule) → Spells bytes schedule → IsUnlessNoMemory r (Ok schedule)
-is_taken bytes (Ok found) right schedule spells = ap Ok (spells_one bytes found schedule right spells)
-is_taken bytes (Err (BadLine line reason)) right schedule spells = absurd (refuses_none bytes schedule line reason spells right)
-is_taken bytes (Err NoMemory) right schedule spells = tt
-
-pub is_told : (bytes : List ℕ) (r : Result Schedule ParseFault) → MatchResult r (λ schedule. Spells bytes schedule) (λ fault. IsFaultOf bytes fault) → (line : ℕ) (reason : LineReason) → IsRefused bytes line reason → IsUnlessNoMemory r (Err (BadLine line reason))
-is_told bytes (Ok found) right line reason refused = absurd (refuses_none bytes found line reason right refused)
-is_told bytes (Err (BadLine place why)) right line reason refused =
-    let same = refuses_one bytes place line why reason right refused in
-    ap (λ (n : ℕ). Err (BadLine n why)) same.0 ∙ ap (λ (w : LineReason). Err (BadLine line w)) same.1
-is_told bytes (Err NoMemory) right line reason refused = tt

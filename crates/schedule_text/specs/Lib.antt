@@ -10,3 +10,6 @@ pub mod Answers
 pub mod Reading
 pub mod Printing
 pub mod Laws
+pub mod Scripts
+pub mod ScriptRefusals
+pub mod ScriptLaws

@@ -1,4 +1,4 @@
--- How much a schedule may hold.
+-- How much a schedule and a script may hold.
 use Rattle.std.specs.Prelude.{ℕ}
 
 -- how many clients there may be
@@ -12,6 +12,10 @@ MAX_PASSES = 64
 -- how many events there may be, which is also the greatest number that names one
 abbrev pub MAX_EVENTS : ℕ
 MAX_EVENTS = 20000
+
+-- how many lines a script may have
+abbrev pub MAX_SCRIPT_LINES : ℕ
+MAX_SCRIPT_LINES = 10000
 
 -- the greatest seed
 abbrev pub MAX_SEED : ℕ

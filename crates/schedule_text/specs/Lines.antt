@@ -66,8 +66,12 @@ abbrev pub with_end : List ℕ → List ℕ
 with_end line = line ++ 10 ∷ []
 
 -- words with one space between each two, and a line end
+abbrev pub words_text : List (List ℕ) → List ℕ
+words_text words = with_end (join_with_byte 32 words)
+
+-- the text of a line
 unfoldable pub line_text : Line → List ℕ
-line_text line = with_end (join_with_byte 32 (line_words line))
+line_text line = words_text (line_words line)
 
 -- The lines of a schedule: how many clients there are, the seed unless it is 0, the passphrases, the events.
 abbrev pub lines_of : Schedule → List Line

@@ -1,26 +1,16 @@
 -- The words of the reader's parts.
-use Rattle.std.specs.Prelude.{◌≡◌, ◌≢◌, ℕ, ◌+◌, List, [], ◌∷◌, ◌++◌, length, codes, Option, Some, None, Result, Ok, Err, MatchOption, MatchResult}
+use Rattle.std.specs.Prelude.{◌≡◌, ◌≢◌, ℕ, ◌+◌, List, [], ◌∷◌, ◌++◌, codes, Option, Some, None, Result, Ok, Err, MatchOption, MatchResult}
 use Rattle.std.specs.List.{AllByRecursion}
-use Rattle.std.specs.Fmt.{decimal}
-use Rattle.client_tags.specs.declared.Kind.{Kind}
-use Rattle.sync_values.specs.declared.edit.Edit.{Edit as Change}
-use Rattle.sync_model.specs.declared.event.Event.{Event}
-use Rattle.sync_model.specs.declared.event.Schedule.{Schedule}
-use Rattle.sync_model.specs.Text.{text_word, kind_word}
 use Rattle.schedule_text.specs.declared.fault.LineReason.{LineReason}
 use Rattle.schedule_text.specs.declared.fault.LineReason.TheVariants.{Form}
 use Rattle.schedule_text.specs.declared.fault.LineFault.{LineFault}
 use Rattle.schedule_text.specs.declared.fault.LineFault.TheVariants.{Bad, NoMemory}
 use Rattle.schedule_text.specs.declared.fault.ParseFault.{ParseFault}
 use Rattle.schedule_text.specs.declared.fault.ParseFault.TheVariants.{BadLine, NoMemory as WantsMemory}
-use Rattle.schedule_text.specs.declared.line.Line.{Line}
 use Rattle.schedule_text.specs.declared.verb.Verb.{Verb}
 use Rattle.schedule_text.specs.declared.verb.Verb.TheVariants.{Edit, Cut, Turn, Gather, Post, Ask, Offer, Lose, Crash, Deliver, Answer, SetPass, GivePass}
-use Rattle.schedule_text.specs.Grammar.{Slot, Between, AnyText, after_slot, change_forms, kept_forms, kind_forms, client_forms, number_forms, pass_forms}
-use Rattle.schedule_text.specs.Lines.{lines_of}
-use Rattle.schedule_text.specs.Spelling.{AreBytes, IsChange, IsEvent}
-use Rattle.schedule_text.specs.Faults.{IsFault, IsFaulty, IsFaultAfter, HasFault}
-use Rattle.schedule_text.specs.Places.{IsInPlace, HasRoom, is_built_line}
+use Rattle.schedule_text.specs.Grammar.{Slot, Between, after_slot, change_forms, kept_forms, kind_forms, client_forms, number_forms, pass_forms}
+use Rattle.schedule_text.specs.Faults.{IsFault, IsFaulty, HasFault}
 
 -- what stands before the first byte of this value, and what follows it
 pub record IsCut (bytes : List ℕ) (byte : ℕ) (front back : List ℕ) : Type 0 where
@@ -47,10 +37,10 @@ abbrev pub IsFaultIn : List (List Slot) → List (List ℕ) → LineFault → Ty
 IsFaultIn forms words (Bad reason) = IsFault forms words reason
 IsFaultIn forms words NoMemory = Unit {0}
 
--- a fault of words after some lines
-abbrev pub IsFaultThere : Option Schedule → List (List ℕ) → LineFault → Type 0
-IsFaultThere before words (Bad reason) = IsFaultAfter before words reason
-IsFaultThere before words NoMemory = Unit {0}
+-- a fault of words in their place
+abbrev pub IsFaultThere : (List (List ℕ) → LineReason → Type 0) → List (List ℕ) → LineFault → Type 0
+IsFaultThere at_fault words (Bad reason) = at_fault words reason
+IsFaultThere at_fault words NoMemory = Unit {0}
 
 -- What was read is right, and its words after some others are these; or they are at fault where some forms may stand.
 abbrev pub IsReading :
@@ -104,11 +94,10 @@ abbrev pub fault_at : ℕ → LineFault → ParseFault
 fault_at line (Bad reason) = BadLine line reason
 fault_at line NoMemory = WantsMemory
 
--- a fault of the line after those of a schedule
-abbrev pub IsFaultNext : Schedule → List (List ℕ) → ParseFault → Type 0
-IsFaultNext before words (BadLine line reason) =
-    (line ≡ length (lines_of before) + 1) × IsFaultAfter (Some before) words reason
-IsFaultNext before words WantsMemory = Unit {0}
+-- a fault of the line after so many lines
+abbrev pub IsFaultNext : (List (List ℕ) → LineReason → Type 0) → ℕ → List (List ℕ) → ParseFault → Type 0
+IsFaultNext at_fault lines words (BadLine line reason) = (line ≡ lines + 1) × at_fault words reason
+IsFaultNext at_fault lines words WantsMemory = Unit {0}
 
 -- a fault that is told before that of a number in front: that of the form, and want of memory
 abbrev pub early_fault : {A : Type 0} → Result A LineFault → Option LineFault

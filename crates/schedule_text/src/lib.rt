@@ -1,8 +1,11 @@
-//! Recorded schedules as text.
+//! Recorded schedules and the scripts of a client as text.
 //!
 //! A schedule has one text: a line for the number of clients, the seed unless it is 0, each passphrase, and each
 //! event, in this order. `print_schedule` writes it. `parse_schedule` reads it back, and refuses every other text
 //! at the first line that cannot stand in its place, with the first reason that fits.
+//!
+//! A script has one text too: a line for each thing that its user does. `print_script` writes it, and `parse_script`
+//! reads it as schedules are read.
 #![tactic(auto)]
 
 mod change;
@@ -15,6 +18,11 @@ mod parse;
 mod pieces;
 mod place;
 mod print;
+mod script;
+mod script_laws;
+mod script_line;
+mod script_parse;
+mod script_print;
 mod text_word;
 mod verb;
 
@@ -26,7 +34,16 @@ pub use laws::{
 pub use line::Line;
 pub use parse::parse_schedule;
 pub use print::print_schedule;
-pub use sync_model::{Event, Schedule};
+pub use script::{Script, ScriptLine};
+pub use script_laws::{
+    refuses_no_script, refuses_one_script_line, scripts_are_read_back, spells_canonical_scripts,
+    spells_one_script,
+};
+pub use script_parse::parse_script;
+pub use script_print::print_script;
+pub use sync_model::{Edit, Event, Schedule};
 
+#[cfg(test)]
+mod script_tests;
 #[cfg(test)]
 mod tests;

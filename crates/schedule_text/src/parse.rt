@@ -4,6 +4,7 @@ ghost use Rattle.std.specs.Prelude.{◌≡◌, ◌≤◌, ◌∷◌, ◌++◌, �
 ghost use Rattle.sync_model.specs.declared.event.Schedule.{Schedule as Plan};
 ghost use Rattle.schedule_text.specs.declared.fault.LineReason.{LineReason as Reason};
 ghost use Rattle.schedule_text.specs.declared.line.Line.TheVariants.{Clients};
+ghost use Rattle.schedule_text.specs.Faults.{IsFaultAfter};
 ghost use Rattle.schedule_text.specs.Lines.{line_text, line_words, lines_of};
 ghost use Rattle.schedule_text.specs.Limits.{MAX_CLIENTS, MAX_EVENTS, MAX_PASSES};
 ghost use Rattle.schedule_text.specs.Spelling.{IsUpTo, Spells};
@@ -21,7 +22,7 @@ use sync_model::Schedule;
 use wire_fields::List;
 
 /// A fault of a line as one of a text.
-fn at_line(fault: LineFault, line: u64) -> ParseFault
+pub(crate) fn at_line(fault: LineFault, line: u64) -> ParseFault
     ensures { result ≡ fault_at line fault }
 {
     match fault {
@@ -44,7 +45,7 @@ fn next_line(before: &Schedule) -> u64
 fn first_line(bytes: &[u8]) -> Result<(u32, &[u8]), ParseFault>
     ensures { MatchResult result
         (λ x. IsUpTo MAX_CLIENTS x.0 × (bytes.now ≡ line_text (Clients x.0) ++ x.1.now))
-        (λ fault. IsFaultOf bytes.now fault) }
+        (λ fault. IsFaultOf (IsRefused bytes.now) fault) }
 {
     let Some((line, rest)) = cut_at(bytes, b'\n') else {
         let reason = if bytes.is_empty() {
@@ -66,7 +67,8 @@ fn line_after(alloc: Global, before: &Schedule, line: &[u8]) -> Result<Line, Par
     requires few_events { length before.now.events ≤ MAX_EVENTS }
     ensures { MatchResult result
         (λ said. MayStand (Some before.now) said × (words_of line.now ≡ line_words said))
-        (λ fault. IsFaultNext before.now (words_of line.now) fault) }
+        (λ fault. IsFaultNext (IsFaultAfter (Some before.now)) (length (lines_of before.now))
+        (words_of line.now) fault) }
 {
     match standing_line(alloc, before, line) {
         Ok(said) => Ok(said),
@@ -76,7 +78,8 @@ fn line_after(alloc: Global, before: &Schedule, line: &[u8]) -> Result<Line, Par
 
 /// The schedule that a text spells, or its first line that cannot stand.
 fn schedule_of(alloc: Global, bytes: &[u8]) -> Result<Schedule, ParseFault>
-    ensures { MatchResult result (λ schedule. Spells bytes.now schedule) (λ fault. IsFaultOf bytes.now fault) }
+    ensures { MatchResult result (λ schedule. Spells bytes.now schedule)
+        (λ fault. IsFaultOf (IsRefused bytes.now) fault) }
 {
     let (clients, lines) = first_line(bytes)?;
     let mut schedule = Schedule {
@@ -110,7 +113,7 @@ pub fn parse_schedule(alloc: Global, bytes: &[u8]) -> Result<Schedule, ParseFaul
     // What is read is spelled so.
     ensures ok { IfOk result (λ schedule. Spells bytes.now schedule) }
     // Where a line is refused, it is the first that cannot stand, for the right reason.
-    ensures refused { IfErr result (λ fault. IsFaultOf bytes.now fault) }
+    ensures refused { IfErr result (λ fault. IsFaultOf (IsRefused bytes.now) fault) }
     // What is spelled so is read, unless memory is wanting.
     ensures taken { (schedule : Plan) → Spells bytes.now schedule → IsUnlessNoMemory result (Ok schedule) }
     // A text with a line that cannot stand is refused there, unless memory is wanting.

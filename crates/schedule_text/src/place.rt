@@ -2,6 +2,7 @@
 
 ghost use Rattle.std.specs.Prelude.{◌≡◌, ◌↔◌, ◌≤◌, ◌++◌, ◌∷◌, [], length, codes, Some, None, IsTrue, OnOk, OnErr, MatchOption, MatchResult};
 ghost use Rattle.schedule_text.specs.declared.line.Line.TheVariants.{Clients, Seed, Pass};
+ghost use Rattle.schedule_text.specs.Faults.{IsFaultAfter};
 ghost use Rattle.schedule_text.specs.Grammar.{Between, AnyText, forms_after, may_pass, may_seed};
 ghost use Rattle.schedule_text.specs.Limits.{MAX_CLIENTS, MAX_PASSES, MAX_SEED};
 ghost use Rattle.schedule_text.specs.Lines.{line_words};
@@ -15,7 +16,7 @@ use crate::fault::{LineFault, LineReason};
 use crate::line::Line;
 use crate::number::{number_in, one_number};
 use crate::pieces::{after, one_word};
-use crate::text_word::text_in;
+use crate::text_word::one_text;
 use std::alloc::Global;
 use sync_model::{Edit, Event, Schedule};
 use wire_fields::{NoMemory, Octets};
@@ -66,10 +67,7 @@ fn seed_of(line: &[u8]) -> Result<u64, LineFault>
 fn pass_of(alloc: Global, line: &[u8]) -> Result<Octets, LineFault>
     ensures { IsReading (codes "pass" ∷ []) ((AnyText ∷ []) ∷ []) AreBytes (λ pass. line_words (Pass pass)) (words_of line.now) result }
 {
-    let Some(word) = one_word(line) else {
-        return Err(NO_FORM);
-    };
-    text_in(alloc, word)
+    one_text(alloc, line)
 }
 
 /// What follows the first word of a line of a seed, where one may stand.
@@ -167,7 +165,7 @@ pub(crate) fn standing_line(
     requires few_passes { length before.now.passes ≤ MAX_PASSES }
     ensures { MatchResult result
         (λ said. MayStand (Some before.now) said × (words_of line.now ≡ line_words said))
-        (λ fault. IsFaultThere (Some before.now) (words_of line.now) fault) }
+        (λ fault. IsFaultThere (IsFaultAfter (Some before.now)) (words_of line.now) fault) }
 {
     let said = line_of(alloc, before, line)?;
     if !has_room(before, &said) {

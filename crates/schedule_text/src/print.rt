@@ -148,7 +148,7 @@ fn write_preference(out: &mut Vec<u8>, preference: &Preference) -> Result<(), No
 
 /// The words of a change, each after a space.
 #[tactic(auto, using(text_lines::proofs::Continuing::continues_after), unfolding(crate::specs::Printing::spaced, crate::specs::Lines::change_words))]
-fn write_change(out: &mut Vec<u8>, edit: &Edit) -> Result<(), NoMemory>
+pub(crate) fn write_change(out: &mut Vec<u8>, edit: &Edit) -> Result<(), NoMemory>
     ensures ok { OnOk result (out.new.items ≡ out.old.items ++ spaced (change_words edit.now)) }
     ensures err { OnErr result (Continues out.old.items out.new.items) }
 {

@@ -1,16 +1,17 @@
 //! Words that spell any bytes.
 
-ghost use Rattle.std.specs.Prelude.{◌≡◌, ◌≢◌, ◌<◌, ◌/◌, ◌%◌, ◌∷◌, ◌++◌, List, ℕ, true, false, IfOk, MatchOption, MatchResult};
+ghost use Rattle.std.specs.Prelude.{◌≡◌, ◌≢◌, ◌<◌, ◌/◌, ◌%◌, ◌∷◌, [], ◌++◌, List, ℕ, true, false, IfOk, MatchOption, MatchResult};
 ghost use Rattle.std.specs.List.{flat_map};
 ghost use Rattle.std.specs.Fmt.{digit_glyph};
 ghost use Rattle.sync_model.specs.Text.{is_plain, byte_text, text_word};
 ghost use Rattle.sync_specifics.specs.Extras.{HasExtra};
 ghost use Rattle.schedule_text.specs.Grammar.{AnyText, AnyExtra};
 ghost use Rattle.schedule_text.specs.Spelling.{AreBytes, IsExtra};
-ghost use Rattle.schedule_text.specs.Reading.{IsSlotFault, Reads};
+ghost use Rattle.schedule_text.specs.Reading.{IsFaultIn, IsSlotFault, Reads};
+ghost use Rattle.schedule_text.specs.Refusals.{words_of};
 
 use crate::fault::{LineFault, LineReason};
-use crate::pieces::are_same;
+use crate::pieces::{are_same, one_word};
 use std::alloc::Global;
 use sync_model::Kind;
 use sync_specifics::is_canonical_extra;
@@ -117,6 +118,17 @@ pub(crate) fn text_in(alloc: Global, word: &[u8]) -> Result<Octets, LineFault>
         Some(text) => Ok(text),
         None => Err(LineFault::Bad(LineReason::Word)),
     }
+}
+
+/// The text of a line that has one word.
+pub(crate) fn one_text(alloc: Global, line: &[u8]) -> Result<Octets, LineFault>
+    ensures { MatchResult result (λ text. AreBytes text × (words_of line.now ≡ text_word text ∷ []))
+        (λ fault. IsFaultIn ((AnyText ∷ []) ∷ []) (words_of line.now) fault) }
+{
+    let Some(word) = one_word(line) else {
+        return Err(LineFault::Bad(LineReason::Form));
+    };
+    text_in(alloc, word)
 }
 
 /// The unknown fields of a word that must spell canonical ones of this type.

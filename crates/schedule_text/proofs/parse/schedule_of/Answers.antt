@@ -1,6 +1,7 @@
 use Rattle.std.proofs.Common.{sym}
 use Rattle.schedule_text.specs.declared.fault.LineReason.TheVariants.{End}
 use Rattle.schedule_text.specs.Answers.{IsFaultOf}
+use Rattle.schedule_text.specs.Refusals.{IsRefused}
 use Rattle.schedule_text.proofs.Cuts.{some_bytes}
 use Rattle.schedule_text.proofs.Refusing.{err_at, fault_next, first_read, reads_on, refused_next}
 use Rattle.schedule_text.proofs.parse.schedule_of.Goals as goal
@@ -15,7 +16,7 @@ returns-in_default c =
 pub returns-in_err-said : goal.returns-in_err-said
 returns-in_err-said c =
     let fault = c.in_err-said.field-0.0 in
-    err_at _ (λ f. IsFaultOf c.args.bytes.now f) c.from_residual-in_err-said.result fault c.from_residual-in_err-said.ensures.1
+    err_at _ (λ f. IsFaultOf (IsRefused c.args.bytes.now) f) c.from_residual-in_err-said.result fault c.from_residual-in_err-said.ensures.1
     (fault_next c.args.bytes.now c.loop-rest.rest.now c.in-Some.line.now c.in-Some.more.now c.loop-rest.schedule fault c.loop-rest.invariant c.in-Some.ensures c.in_err-said.ensures)
 
 pub loop-rest-preserved : goal.loop-rest-preserved

@@ -1,12 +1,6 @@
-use Rattle.std.proofs.Common.{[], ◌∷◌}
-use Rattle.schedule_text.specs.Grammar.{AnyText}
 use Rattle.schedule_text.specs.Refusals.{words_of}
-use Rattle.schedule_text.proofs.Forms.{no_form_by_length}
 use Rattle.schedule_text.proofs.LineReadings.{pass_read}
 use Rattle.schedule_text.proofs.place.pass_of.Goals as goal
 
-pub returns-in_default : goal.returns-in_default
-returns-in_default c = no_form_by_length (words_of c.args.line.now) (AnyText ∷ []) c.in_default.ensures
-
 pub returns : goal.returns
-returns c = pass_read c.args.line.now c.in-Some.word.now c.text_in.result c.in-Some.ensures c.text_in.ensures
+returns c = pass_read (words_of c.args.line.now) c.one_text.result c.one_text.ensures
