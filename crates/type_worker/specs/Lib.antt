@@ -1,0 +1,5 @@
+pub mod Opening
+pub mod Entries
+pub mod Batches
+pub mod Sending
+pub mod Settling

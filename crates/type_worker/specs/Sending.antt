@@ -1,0 +1,109 @@
+-- What a type sends of its offers: entities, sealed where a key seals them.
+use Rattle.std.specs.Prelude.{◌≡◌, ◌≢◌, ℕ, Bool, true, false, ◌&&◌, ◌||◌, ◌==◌, not, if◌then◌else◌, List, [], ◌∷◌, length, Option, Some, None, is_some, option_map, IfSome}
+use Rattle.std.specs.Int.{w64, cast_signed}
+use Rattle.std.specs.List.{list_all}
+use Rattle.client_tags.specs.declared.Kind.{Kind}
+use Rattle.client_tags.specs.declared.Kind.TheVariants as kinds
+use Rattle.key_derivation.specs.declared.NigoriKey.{NigoriKey}
+use Rattle.nigori.specs.Sealing.{sealed}
+use Rattle.sync_values.specs.declared.value.Value.{Value}
+use Rattle.sync_specifics.specs.declared.sealed.Sealed.{Sealed}
+use Rattle.sync_specifics.specs.declared.specifics.Specifics.{Specifics}
+use Rattle.sync_messages.specs.declared.message.Entity.{Entity}
+use Rattle.key_bag.specs.Bags.{Bag, key_named}
+use Rattle.sync_model.specs.declared.message.Key.{Key}
+use Rattle.sync_model.specs.declared.message.Offer.{Offer}
+use Rattle.sync_model.specs.Settings.{no_key}
+use Rattle.sync_model.specs.Sending.{lock_for, own_lock, drawn_for}
+use Rattle.sync_model.specs.Values.{is_absent}
+use Rattle.random_vectors.specs.Vectors.{Place, vectors_from, after_draws}
+use Rattle.replay_messages.specs.Replies.{id_of}
+use Rattle.replay_messages.specs.Sealed.{plain_specifics, text_to_seal, specifics_around}
+use Rattle.type_worker.specs.Batches.{Held}
+
+-- logins are always sealed under the default key, preferences where that is asked, and a profile's keys never
+abbrev pub needs_default : Bool → Kind → Bool
+needs_default seals kinds.Nigori = false
+needs_default seals kinds.Preference = seals
+needs_default seals kinds.Password = true
+
+-- the name of the key under which a type's values are sealed, if there is one
+abbrev pub wanted_name : Bag → Bool → Kind → Option (List ℕ)
+wanted_name bag seals kind = if needs_default seals kind then bag.default else None
+
+-- a bag has the key of a lock, if there is one
+abbrev pub has_lock : Bag → Option (List ℕ) → Bool
+has_lock bag None = true
+has_lock bag (Some name) = is_some (key_named bag.keys name)
+
+-- the bag lacks the key of the own lock of a profile's keys that are offered
+abbrev pub lacks_own_lock : Bag → Kind → List Offer → Bool
+lacks_own_lock bag kinds.Nigori offers = not (list_all (λ offer. has_lock bag (own_lock offer.value)) offers)
+lacks_own_lock bag kinds.Preference offers = false
+lacks_own_lock bag kinds.Password offers = false
+
+-- nothing is sent: a batch waits, the default key is needed and missing, or a profile's keys lack their own
+abbrev pub is_held_back : Held → Bag → Bool → List Offer → Bool
+is_held_back held bag seals offers =
+    is_some held.pending || (needs_default seals held.kind && not (is_some bag.default)) || lacks_own_lock bag held.kind offers
+
+-- the name of the entity on which an offer is based, empty where it is based on none
+abbrev pub id_based : Kind → Offer → List ℕ
+id_based kind offer = if offer.known == 0 then [] else id_of (record { kind = kind; hash = offer.hash })
+
+-- an offer as an entity with these specifics
+abbrev pub entity_with : Kind → Offer → Specifics → Entity
+entity_with kind offer specifics = record {
+  id = id_based kind offer;
+  version = cast_signed w64 offer.known;
+  deleted = is_absent offer.value;
+  specifics = Some specifics;
+  hash = Some offer.hash;
+}
+
+-- the key of a name in a bag; one that the bag lacks is not asked for
+abbrev pub key_of : Option NigoriKey → NigoriKey
+key_of None = no_key
+key_of (Some key) = key
+
+-- a value's text, sealed under a bag's key of a name with a vector
+abbrev pub text_under : Bag → List ℕ → List ℕ → Value → Sealed
+text_under bag name vector value =
+    record { key_name = name; blob = sealed (key_of (key_named bag.keys name)) (text_to_seal value) vector }
+
+-- some offers as entities, in their order, each that a key seals with the next of these vectors
+unfoldable pub entities_for : Bag → Kind → Option (List ℕ) → List (List ℕ) → List Offer → List Entity
+entities_for bag kind name vectors [] = []
+entities_for bag kind name vectors (offer ∷ offers) = elim (lock_for kind name offer.value) [
+    | None ↦
+        entity_with kind offer (plain_specifics kind offer.value) ∷ entities_for bag kind name vectors offers
+    | Some lock ↦ elim vectors [
+        | [] ↦ []
+        | vector ∷ later ↦
+            entity_with kind offer (specifics_around kind offer.value (text_under bag lock vector offer.value))
+            ∷ entities_for bag kind name later offers
+      ]
+  ]
+
+-- so many vectors were drawn, in this order; where the place of what draws them is told, they are those from there on
+pub record AreDrawn (before now : Option Place) (count : ℕ) (vectors : List (List ℕ)) : Type 0 where
+  pub count : length vectors ≡ count
+  pub vectors : IfSome before (λ place. vectors ≡ vectors_from place count)
+  pub moved : now ≡ option_map (after_draws count) before
+
+-- what is sent of some offers: an entity for each, and one vector drawn for each that is sealed
+pub record IsSent (held : Held) (bag : Bag) (seals : Bool) (offers : List Offer) (before now : Option Place) (entities : List Entity) : Type 0 where
+  pub vectors : List (List ℕ)
+  pub are_drawn : AreDrawn before now (drawn_for held.kind (wanted_name bag seals held.kind) 0 offers) vectors
+  pub are_entities : entities ≡ entities_for bag held.kind (wanted_name bag seals held.kind) vectors offers
+
+-- nothing is sent, and nothing drawn
+pub record IsNotSent (before now : Option Place) (entities : List Entity) : Type 0 where
+  pub none : entities ≡ []
+  pub undrawn : now ≡ before
+
+-- what is sent of some offers, or nothing where they are held back
+abbrev pub IsContribution : Held → Bag → Bool → List Offer → Option Place → Option Place → List Entity → Type 0
+IsContribution held bag seals offers before now entities =
+    if is_held_back held bag seals offers then IsNotSent before now entities
+    else IsSent held bag seals offers before now entities

@@ -1,0 +1,17 @@
+//! One type's part of a client's cycle: which entities of a reply open and as what, the batch that waits for a key, and
+//! what is sealed for a commit.
+#![tactic(auto)]
+
+mod blocked;
+mod contribution;
+mod opening;
+mod pending;
+mod settling;
+mod worker;
+
+pub use blocked::{BlockCause, Blocked};
+pub use settling::Lock;
+pub use worker::{Taken, Worker};
+
+#[cfg(test)]
+mod tests;
