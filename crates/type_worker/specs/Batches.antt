@@ -5,16 +5,22 @@ use Rattle.sync_model.specs.declared.message.Task.{Task}
 use Rattle.sync_model.specs.declared.message.Task.TheVariants.{Batch as Updating, Acks}
 use Rattle.sync_model.specs.declared.message.Update.{Update}
 use Rattle.key_bag.specs.Bags.{Bag}
+use Rattle.sync_specifics.specs.declared.specifics.Specifics.{Specifics}
 use Rattle.type_worker.specs.declared.blocked.Blocked.{Blocked}
+use Rattle.type_worker.specs.declared.pending.Pending.{Pending}
 use Rattle.type_worker.specs.declared.pending.SentEntry.{SentEntry}
 use Rattle.type_worker.specs.Opening.{sealed_in, OpensTo, IsShut}
+
+-- the name that the sealed text of specifics bears, if they have one
+abbrev pub lock_of : Specifics → Option (List ℕ)
+lock_of specifics = option_map (λ sealed. sealed.key_name) (sealed_in specifics)
 
 -- under a bag, an entry is this update: it opens to its value, and its lock is the name that its sealed text bears
 pub record OpensAs (bag : Bag) (entry : SentEntry) (update : Update) : Type 0 where
   pub hash : update.hash ≡ entry.hash
   pub version : update.version ≡ entry.version
   pub value : OpensTo bag entry.specifics update.value
-  pub lock : update.lock ≡ option_map (λ sealed. sealed.key_name) (sealed_in entry.specifics)
+  pub lock : update.lock ≡ lock_of entry.specifics
 
 -- under a bag, entries are these updates, one of each and in their order
 abbrev pub AllOpenAs : Bag → List SentEntry → List Update → Type 0
@@ -43,11 +49,19 @@ abbrev pub IsTaskOf : Bag → List SentEntry → ℕ → Task → Type 0
 IsTaskOf bag entries mark (Updating batch) = AllOpenAs bag entries batch.updates × (batch.mark ≡ mark)
 IsTaskOf bag entries mark (Acks acks) = ⊥
 
+-- the task of a batch of these updates with this mark
+abbrev pub task_of : List Update → ℕ → Task
+task_of updates mark = Updating (record { updates = updates; mark = mark })
+
 -- a batch that waits for a key: its entries as they were sent, its mark, and the first entry that did not open at the last try
 pub record Waiting : Type 0 where
   pub entries : List SentEntry
   pub mark : ℕ
   pub blocked : Blocked
+
+-- a batch as it is kept
+abbrev pub waiting_of : Pending → Waiting
+waiting_of pending = record { entries = pending.entries; mark = pending.mark; blocked = pending.blocked }
 
 -- what a type's worker holds: at most one batch
 pub record Held : Type 0 where
@@ -68,6 +82,12 @@ pub record Waits (bag : Bag) (entries : List SentEntry) (mark : ℕ) (before now
   pub blocked : Blocked
   pub is_first : IsFirstBlocked bag entries blocked
   pub holds : now ≡ holding before entries mark blocked
+
+-- a batch that was tried again still waits: what is told of it is of this try
+pub record IsRetried (bag : Bag) (before now : Pending) : Type 0 where
+  pub is_first : IsFirstBlocked bag before.entries now.blocked
+  pub entries : now.entries ≡ before.entries
+  pub mark : now.mark ≡ before.mark
 
 -- nothing waits, or it still does not open, and what is told of it is of this try
 abbrev pub StillWaits : Bag → Option Waiting → Held → Held → Type 0

@@ -2,15 +2,20 @@
 //! what is sealed for a commit.
 #![tactic(auto)]
 
+mod batch;
 mod blocked;
 mod contribution;
+mod entries;
+mod locks;
+mod open_fault;
 mod opening;
 mod pending;
+mod sealing;
 mod settling;
 mod worker;
 
 pub use blocked::{BlockCause, Blocked};
-pub use settling::Lock;
+pub use settling::{Lock, settle};
 pub use worker::{Taken, Worker};
 
 #[cfg(test)]
