@@ -1,0 +1,9 @@
+mod Opened
+mod Batched
+mod Settled
+mod Held
+mod KeyNames
+mod LockLemmas
+mod Drawn
+mod SentLemmas
+mod SealedTexts
