@@ -1,0 +1,4 @@
+pub mod Said
+pub mod Places
+mod WordLemmas
+pub mod ReadCommands
