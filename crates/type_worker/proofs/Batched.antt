@@ -1,5 +1,5 @@
 -- Entries that are tried one after another.
-use Rattle.std.proofs.Common.{◌≡◌, ℕ, ◌+◌, ◌<◌, ◌≤◌, List, [], ◌∷◌, ◌++◌, length, drop, get_or, Result, Ok, Err, refl, sym, ap, subst, ◌∙◌, inl, inr, append_assoc}
+use Rattle.std.proofs.Common.{◌≡◌, ℕ, ◌+◌, ◌<◌, ◌≤◌, List, [], ◌∷◌, ◌++◌, length, drop, get_or, Result, Ok, Err, sym, ap, subst, ◌∙◌, inl, inr, append_assoc}
 use Rattle.std.specs.Result.{IsErrAnd}
 use Rattle.std.proofs.lemmas.List.{drop_more, drop_all, append-nil}
 use Rattle.sync_model.specs.declared.message.Update.{Update}
@@ -8,7 +8,7 @@ use Rattle.type_worker.specs.declared.batch.BatchFault.{BatchFault}
 use Rattle.type_worker.specs.declared.batch.BatchFault.TheVariants.{Blocked as Stopped, NoMemory}
 use Rattle.type_worker.specs.declared.blocked.Blocked.{Blocked}
 use Rattle.type_worker.specs.declared.pending.SentEntry.{SentEntry}
-use Rattle.type_worker.specs.Batches.{OpensAs, AllOpenAs, AllOpen, IsFirstBlocked}
+use Rattle.type_worker.specs.Batches.{OpensAs, AllOpenAs}
 use Rattle.type_worker.specs.Tries.{IsBlockedAlone, IsStopped, IsEntryTry, IsBatchTry}
 
 -- what comes of the entries that are left makes what comes of all

@@ -1,5 +1,5 @@
 -- Vectors that are drawn one after another.
-use Rattle.std.proofs.Common.{◌≡◌, ℕ, zero, suc, ◌+◌, ◌≤◌, ◌<◌, arith, List, [], ◌∷◌, ◌++◌, length, Option, None, Some, Result, Ok, Err, refl, sym, ap, subst, ◌∙◌, inl, inr, ◌⊎◌, length-append, add-one}
+use Rattle.std.proofs.Common.{◌≡◌, ℕ, zero, suc, ◌+◌, ◌≤◌, arith, List, [], ◌∷◌, ◌++◌, Option, None, Some, Result, Ok, Err, refl, sym, ap, subst, ◌∙◌, inl, inr, ◌⊎◌, length-append, add-one}
 use Rattle.std.specs.Option.{option_map, IfSome}
 use Rattle.std.specs.Result.{OnErr}
 use Rattle.random_vectors.specs.Vectors.{Place, vector_at, vectors_from, after_draw, after_draws}

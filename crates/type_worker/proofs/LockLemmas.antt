@@ -6,7 +6,6 @@ use Rattle.client_tags.specs.declared.Kind.TheVariants as kinds
 use Rattle.key_derivation.specs.declared.NigoriKey.{NigoriKey}
 use Rattle.key_bag.specs.Bags.{Bag, key_named, HasName}
 use Rattle.sync_model.specs.declared.message.Offer.{Offer}
-use Rattle.sync_model.specs.Sending.{lock_for, own_lock}
 use Rattle.sync_model.specs.Values.{is_absent}
 use Rattle.type_worker.specs.Sending.{needs_default, wanted_name, has_lock, have_own_locks, lacks_own_lock, have_locks, is_held_back}
 use Rattle.type_worker.specs.Batches.{Held}

@@ -1,5 +1,5 @@
 -- What an attempt to open specifics answers.
-use Rattle.std.proofs.Common.{◌≡◌, ◌≢◌, ℕ, List, Option, None, Some, Result, Ok, Err, refl, sym, ap, subst, ◌∙◌, inl, inr, ◌⊎◌, length}
+use Rattle.std.proofs.Common.{◌≡◌, ◌≢◌, ℕ, List, None, Some, Result, Ok, Err, refl, sym, ap, subst, ◌∙◌, inl, inr, length}
 use Rattle.std.specs.Result.{IsErrAnd}
 use Rattle.message_fields.specs.Faults.{Answered, no_memory}
 use Rattle.message_fields.specs.declared.fault.MessageFault.{MessageFault}
@@ -19,10 +19,9 @@ use Rattle.key_bag.specs.declared.fault.AnyFault.{AnyFault}
 use Rattle.key_bag.specs.declared.fault.AnyFault.TheVariants.{NoKey, Unseal, NoMemory}
 use Rattle.key_bag.specs.Bags.{Bag}
 use Rattle.key_bag.specs.Texts.{AnswersExactly, IsLacked, UnsealsTo, HasUnsealFault}
-use Rattle.type_worker.specs.declared.blocked.BlockCause.{BlockCause}
 use Rattle.type_worker.specs.declared.blocked.BlockCause.TheVariants as causes
 use Rattle.type_worker.specs.declared.open_fault.OpenFault.{OpenFault}
-use Rattle.type_worker.specs.Opening.{sealed_in, preference_within, SaysPreferenceWithin, said_as, SaysAs, nigori_with, SaysWithin, OpensSealed, OpensTo, HasCause, IsShut}
+use Rattle.type_worker.specs.Opening.{sealed_in, preference_within, SaysPreferenceWithin, said_as, SaysAs, nigori_with, SaysWithin, OpensSealed, OpensTo}
 use Rattle.type_worker.specs.Openings.{shut_by, shut_for, shut_within, IsShutAlone, IsOpened}
 
 none_some : {A : Type 0} (value : A) → None ≡ Some value → ⊥

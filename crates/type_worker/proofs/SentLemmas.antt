@@ -1,17 +1,15 @@
 -- Offers that are sent one after another.
-use Rattle.std.proofs.Common.{◌≡◌, ℕ, zero, suc, ◌+◌, ◌≤◌, ◌<◌, arith, List, [], ◌∷◌, ◌++◌, length, drop, get_or, Option, None, Some, true, false, ◌&&◌, Bool, IsTrue, refl, sym, ap, subst, ◌∙◌, append_assoc, add-one}
-use Rattle.std.specs.List.{list_all}
-use Rattle.std.specs.Option.{option_map}
-use Rattle.std.proofs.lemmas.List.{drop_more, drop_all, append-nil, length-drop}
+use Rattle.std.proofs.Common.{◌≡◌, ℕ, suc, ◌+◌, ◌≤◌, ◌<◌, arith, List, [], ◌∷◌, ◌++◌, length, drop, get_or, Option, None, Some, true, false, ◌&&◌, Bool, IsTrue, refl, sym, ap, subst, ◌∙◌, append_assoc, add-one}
+use Rattle.std.proofs.lemmas.List.{drop_more, drop_all, append-nil}
 use Rattle.client_tags.specs.declared.Kind.{Kind}
 use Rattle.sync_messages.specs.declared.message.Entity.{Entity}
 use Rattle.key_bag.specs.Bags.{Bag}
 use Rattle.sync_model.specs.declared.message.Offer.{Offer}
 use Rattle.sync_model.specs.Sending.{lock_for, drawn_after, drawn_for}
-use Rattle.random_vectors.specs.Vectors.{Place, after_draw, after_draws}
+use Rattle.random_vectors.specs.Vectors.{Place}
 use Rattle.replay_messages.specs.Sealed.{plain_specifics}
 use Rattle.type_worker.specs.Sending.{has_lock, have_locks, entity_with, sealed_entity, with_first, entities_for, AreDrawn, IsSentUnder, MayHaveDrawn}
-use Rattle.type_worker.specs.Sent.{IsDrawn, IsSentPlain, IsSentSealed, IsSentBy}
+use Rattle.type_worker.specs.Sent.{IsSentBy}
 use Rattle.type_worker.proofs.Drawn.{none_drawn, one_more_drawn, drawn_at_most, one_more_at_most}
 
 module _ (bag : Bag) (kind : Kind) (name : Option (List ℕ)) where

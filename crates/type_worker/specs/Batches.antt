@@ -53,7 +53,8 @@ IsTaskOf bag entries mark (Acks acks) = ⊥
 abbrev pub task_of : List Update → ℕ → Task
 task_of updates mark = Updating (record { updates = updates; mark = mark })
 
--- a batch that waits for a key: its entries as they were sent, its mark, and the first entry that did not open at the last try
+-- a batch that waits for a key: its entries as they were sent, its mark, and the first entry that did not open at the
+-- last try
 pub record Waiting : Type 0 where
   pub entries : List SentEntry
   pub mark : ℕ

@@ -30,9 +30,11 @@ entry_at kind version hash specifics =
     then Some (record { hash = hash; version = cast_unsigned w64 version; specifics = specifics })
     else None
 
--- an entity with this hash and these specifics, if it has both, as a type takes it; of what is deleted it takes the type alone
+-- an entity with this hash and these specifics, if it has both, as a type takes it; of what is deleted it takes the
+-- type alone
 abbrev pub entry_with : Kind → Entity → Option (List ℕ) → Option Specifics → Option SentEntry
-entry_with kind entity (Some hash) (Some specifics) = entry_at kind entity.version hash (stored entity.deleted specifics)
+entry_with kind entity (Some hash) (Some specifics) =
+    entry_at kind entity.version hash (stored entity.deleted specifics)
 entry_with kind entity _ _ = None
 
 -- an entity as a type takes it, if it does

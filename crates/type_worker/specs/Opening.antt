@@ -1,6 +1,5 @@
 -- What an entity's specifics say under a bag of keys, and why they say nothing under it.
 use Rattle.std.specs.Prelude.{◌≡◌, ℕ, List, length, Option, Some, None, Result, Ok, Err}
-use Rattle.client_tags.specs.declared.Kind.{Kind}
 use Rattle.key_derivation.specs.declared.NigoriKey.{NigoriKey}
 use Rattle.message_fields.specs.declared.fault.MessageFault.{MessageFault}
 use Rattle.message_fields.specs.declared.fault.MessageReason.TheVariants.{Missing}
@@ -27,8 +26,8 @@ sealed_in (SealedPreference text) = Some text
 sealed_in (Password text) = Some text
 sealed_in (Nigori content) = Some content.bag
 
--- The preference that specifics within a sealed text are. Where they are anything else, a plain preference is missing at
--- the end of the text.
+-- The preference that specifics within a sealed text are. Where they are anything else, a plain preference is missing
+-- at the end of the text.
 abbrev pub preference_within : ℕ → Result (Option Specifics) MessageFault → Result PreferenceData MessageFault
 preference_within end (Err fault) = Err fault
 preference_within end (Ok (Some (Preference preference))) = Ok preference
@@ -85,7 +84,8 @@ pub record HasFaultWithin (bag : Bag) (specifics : Specifics) (sealed : Sealed) 
   pub is_text : UnsealsTo bag sealed text
   pub is_fault : SaysWithin specifics text (Err fault)
 
--- a sealed text does not open under a bag because of this: the bag lacks its key, the key does not unseal it, or the text is no content of the type
+-- a sealed text does not open under a bag because of this: the bag lacks its key, the key does not unseal it, or the
+-- text is no content of the type
 abbrev pub HasCause : Bag → Specifics → Sealed → BlockCause → Type 0
 HasCause bag specifics sealed (NoKey name) = IsLacked bag sealed.key_name name
 HasCause bag specifics sealed (Unseal fault) = HasUnsealFault bag sealed fault

@@ -1,12 +1,11 @@
 -- What an attempt to open something answers.
-use Rattle.std.specs.Prelude.{◌≡◌, List, Option, Some, Result, Ok, Err}
+use Rattle.std.specs.Prelude.{Result, Ok, Err}
 use Rattle.key_bag.specs.declared.fault.AnyFault.{AnyFault}
 use Rattle.key_bag.specs.declared.fault.AnyFault.TheVariants as faults
 use Rattle.key_bag.specs.Bags.{Bag}
 use Rattle.message_fields.specs.declared.fault.MessageFault.{MessageFault}
 use Rattle.message_fields.specs.declared.fault.MessageReason.{MessageReason}
 use Rattle.message_fields.specs.declared.fault.MessageReason.TheVariants as reasons
-use Rattle.sync_model.specs.declared.message.Update.{Update}
 use Rattle.sync_values.specs.declared.value.Value.{Value}
 use Rattle.sync_specifics.specs.declared.sealed.Sealed.{Sealed}
 use Rattle.sync_specifics.specs.declared.specifics.Specifics.{Specifics}

@@ -11,7 +11,6 @@ use Rattle.sync_specifics.specs.declared.sealed.Sealed.{Sealed}
 use Rattle.sync_specifics.specs.declared.specifics.Specifics.{Specifics}
 use Rattle.sync_messages.specs.declared.message.Entity.{Entity}
 use Rattle.key_bag.specs.Bags.{Bag, key_named}
-use Rattle.sync_model.specs.declared.message.Key.{Key}
 use Rattle.sync_model.specs.declared.message.Offer.{Offer}
 use Rattle.sync_model.specs.Settings.{no_key}
 use Rattle.sync_model.specs.Sending.{lock_for, own_lock, drawn_for}
@@ -49,7 +48,8 @@ lacks_own_lock bag kinds.Password offers = false
 -- nothing is sent: a batch waits, the default key is needed and missing, or a profile's keys lack their own
 abbrev pub is_held_back : Held → Bag → Bool → List Offer → Bool
 is_held_back held bag seals offers =
-    is_some held.pending || (needs_default seals held.kind && not (is_some bag.default)) || lacks_own_lock bag held.kind offers
+    is_some held.pending || (needs_default seals held.kind && not (is_some bag.default))
+    || lacks_own_lock bag held.kind offers
 
 -- the name of the entity on which an offer is based, empty where it is based on none
 abbrev pub id_based : Kind → Offer → List ℕ
@@ -106,8 +106,8 @@ pub record AreDrawn (before now : Option Place) (count : ℕ) (vectors : List (L
   pub are_next : IfSome before (λ place. vectors ≡ vectors_from place count)
   pub moved : now ≡ option_map (after_draws count) before
 
--- what is sent of some offers of a type under the name that is wanted: an entity for each, and one vector drawn for each
--- that is sealed
+-- what is sent of some offers of a type under the name that is wanted: an entity for each, and one vector drawn for
+-- each that is sealed
 pub record IsSentUnder (bag : Bag) (kind : Kind) (name : Option (List ℕ)) (offers : List Offer) (before now : Option Place) (entities : List Entity) : Type 0 where
   pub vectors : List (List ℕ)
   pub are_drawn : AreDrawn before now (drawn_for kind name 0 offers) vectors

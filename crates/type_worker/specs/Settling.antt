@@ -1,5 +1,5 @@
 -- What the answers to a commit acknowledge.
-use Rattle.std.specs.Prelude.{ℕ, ℤ, pos, negsuc, List, [], ◌∷◌, ◌++◌, Option}
+use Rattle.std.specs.Prelude.{ℕ, ℤ, pos, negsuc, List, [], ◌∷◌, ◌++◌}
 use Rattle.sync_messages.specs.declared.message.EntryAnswer.{EntryAnswer}
 use Rattle.sync_messages.specs.declared.message.Outcome.{Outcome}
 use Rattle.sync_messages.specs.declared.message.Outcome.TheVariants.{Success, Conflict, Retry, Invalid, OverQuota, Transient}
@@ -31,7 +31,8 @@ ack_by offer lock version Invalid = []
 ack_by offer lock version OverQuota = []
 ack_by offer lock version Transient = []
 
--- the acknowledgements that answers give to offers that were sent with these locks, each answer to the offer at its place
+-- the acknowledgements that answers give to offers that were sent with these locks, each answer to the offer at its
+-- place
 unfoldable pub settled : List Offer → List Lock → List EntryAnswer → List Ack
 settled [] locks answers = []
 settled (offer ∷ offers) [] answers = []

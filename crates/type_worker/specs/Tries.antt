@@ -1,5 +1,5 @@
 -- What a try to open entries answers.
-use Rattle.std.specs.Prelude.{◌≡◌, List, Option, Some, Result, Ok, Err}
+use Rattle.std.specs.Prelude.{◌≡◌, List, Some, Result, Ok, Err}
 use Rattle.key_bag.specs.Bags.{Bag}
 use Rattle.sync_model.specs.declared.message.Update.{Update}
 use Rattle.sync_values.specs.declared.value.Value.{Value}
@@ -13,7 +13,8 @@ use Rattle.type_worker.specs.Batches.{lock_of, OpensAs, AllOpenAs, AllOpen, IsBl
 
 -- an entry as an update of this value
 abbrev pub update_of : SentEntry → Value → Update
-update_of entry value = record { hash = entry.hash; version = entry.version; value = value; lock = lock_of entry.specifics }
+update_of entry value =
+    record { hash = entry.hash; version = entry.version; value = value; lock = lock_of entry.specifics }
 
 -- this is told of an entry that does not open for a cause
 pub record IsTold (entry : SentEntry) (cause : BlockCause) (blocked : Blocked) : Type 0 where
@@ -37,8 +38,8 @@ pub record IsStopped (bag : Bag) (entries : List SentEntry) (blocked : Blocked) 
   pub is_first : IsFirstBlocked bag entries blocked
   pub not_all : ¬ AllOpen bag entries
 
--- what a try to open some entries under a bag answers: their updates, or what is told of the first that does not open, but
--- for want of memory
+-- what a try to open some entries under a bag answers: their updates, or what is told of the first that does not open,
+-- but for want of memory
 abbrev pub IsBatchTry : Bag → List SentEntry → Result (List Update) BatchFault → Type 0
 IsBatchTry bag entries (Ok updates) = AllOpenAs bag entries updates
 IsBatchTry bag entries (Err (Stopped blocked)) = IsStopped bag entries blocked

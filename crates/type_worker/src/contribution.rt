@@ -19,11 +19,11 @@ use sync_specifics::Specifics;
 use wire_fields::{List, NoMemory, Octets};
 
 impl Worker {
-    /// What is sent of some offers: an entity for each, in their order, and sealed where a key seals it. A vector is drawn
-    /// for each that is sealed. Nothing is sent, and nothing drawn, while a batch waits, where the default key is needed
-    /// and missing, and where the bag lacks the key of the own lock of a profile's keys. Logins are sealed always, and
-    /// preferences where `seals` asks for it. It takes time linear in the size of the offers, and for each in the number of
-    /// the keys.
+    /// What is sent of some offers: an entity for each, in their order, and sealed where a key seals it. A vector is
+    /// drawn for each that is sealed. Nothing is sent, and nothing drawn, while a batch waits, where the default key is
+    /// needed and missing, and where the bag lacks the key of the own lock of a profile's keys. Logins are sealed
+    /// always, and preferences where `seals` asks for it. It takes time linear in the size of the offers, and for each
+    /// in the number of the keys.
     pub fn contribution<D: Dice>(
         &self,
         bag: &KeyBag,
@@ -31,7 +31,8 @@ impl Worker {
         offers: &List<Offer>,
         dice: &mut D,
     ) -> Result<List<Entity>, NoMemory>
-        ensures sent { IfOk result (IsContribution self.now bag.now seals offers.now (D.place dice.old) (D.place dice.new)) }
+        ensures sent { IfOk result
+            (IsContribution self.now bag.now seals offers.now (D.place dice.old) (D.place dice.new)) }
         ensures err { OnErr result (MayHaveDrawn (length offers.now) (D.place dice.old) (D.place dice.new)) }
     {
         let name = wanted_name(bag, seals, self.kind)?;

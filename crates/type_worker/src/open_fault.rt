@@ -1,6 +1,4 @@
 //! Why something is not opened.
-ghost use Rattle.type_worker.specs.Openings.{shut_by, shut_within};
-
 use crate::blocked::BlockCause;
 use key_bag::AnyFault;
 use sync_specifics::{MessageFault, MessageReason};

@@ -20,8 +20,8 @@ pub(crate) struct SentEntry {
     pub specifics: Specifics,
 }
 
-/// A batch that waits: its entries, the mark up to which they are all, and the first entry that did not open when it was
-/// last tried.
+/// A batch that waits: its entries, the mark up to which they are all, and the first entry that did not open when it
+/// was last tried.
 #[derive(Debug, Drop)]
 pub(crate) struct Pending {
     pub entries: List<SentEntry>,
@@ -36,7 +36,8 @@ impl Pending {
         alloc: Global,
         bag: &KeyBag,
     ) -> Result<Option<Task>, NoMemory>
-        ensures task { (task : Letter) → result ≡ Ok (Some task) → IsTaskOf bag.now self.old.entries self.old.mark task }
+        ensures task { (task : Letter) → result ≡ Ok (Some task)
+            → IsTaskOf bag.now self.old.entries self.old.mark task }
         ensures kept { (task : Letter) → result ≡ Ok (Some task) → self.new ≡ self.old }
         ensures still_waits { result ≡ Ok None → IsRetried bag.now self.old self.new }
         ensures err { OnErr result (self.new ≡ self.old) }

@@ -56,8 +56,8 @@ impl Worker {
     }
 
     /// Takes the entities of a reply that are of the type, with the mark up to which they are all. The batch takes the
-    /// place of one that waits. It takes time linear in the size of the entities, and for each that is sealed in the number
-    /// of the keys.
+    /// place of one that waits. It takes time linear in the size of the entities, and for each that is sealed in the
+    /// number of the keys.
     pub fn take_updates(
         &mut self,
         bag: &KeyBag,
@@ -89,8 +89,8 @@ impl Worker {
         }
     }
 
-    /// Tries the batch that waits again, as after a key was added. With a task the batch still waits, and `blocked` tells
-    /// what it told before, until `drop_pending`. It takes time as `take_updates` does.
+    /// Tries the batch that waits again, as after a key was added. With a task the batch still waits, and `blocked`
+    /// tells what it told before, until `drop_pending`. It takes time as `take_updates` does.
     pub fn keys_changed(&mut self, bag: &KeyBag) -> Result<Option<Task>, NoMemory>
         ensures mailable { (task : Letter) → result ≡ Ok (Some task) → IsMailable bag.now self.old.pending task }
         ensures kept { (task : Letter) → result ≡ Ok (Some task) → self.new ≡ self.old }

@@ -1,5 +1,5 @@
-// A key and its name, as an independent model has them. The texts were sealed under it by another program, with the first
-// vector of the zero seed's stream 0.
+// A key and its name, as an independent model has them. The texts were sealed under it by another program, with the
+// first vector of the zero seed's stream 0.
 use key_derivation::NigoriKey;
 
 const PARTS: [u128; 3] = [

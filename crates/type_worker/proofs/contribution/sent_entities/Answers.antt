@@ -1,4 +1,4 @@
-use Rattle.std.proofs.Common.{List, [], ◌∷◌, ◌++◌, length, refl, sym, subst}
+use Rattle.std.proofs.Common.{List, [], ◌∷◌, ◌++◌, refl, sym, subst}
 use Rattle.sync_messages.specs.declared.message.Entity.{Entity}
 use Rattle.type_worker.proofs.Drawn.{of_err}
 use Rattle.type_worker.proofs.SentLemmas.{SentSoFar, none_sent, sent_more, all_sent, drawn_so_far, drawn_with_next, have_left}
