@@ -13,6 +13,7 @@ use wire_fields::{List, NoMemory, Octets};
 mod opening;
 mod passing;
 mod rows;
+mod sealed_texts;
 mod sending;
 mod settling;
 mod waiting;
