@@ -1,4 +1,4 @@
-mod Names
+pub mod Names
 mod Bagged
 mod Exact
 mod LawLemmas

@@ -1,4 +1,4 @@
-ghost use Rattle.std.specs.Prelude.{◌≡◌, ◌==◌, ◌↔◌, ℕ, List, length, IsTrue, Ok, Err, IfOk, OnOk, OnErr};
+ghost use Rattle.std.specs.Prelude.{◌≡◌, ◌==◌, ◌↔◌, ℕ, List, length, IsTrue, Ok, Err, IfOk, OnOk, OnErr, option_copied};
 ghost use Rattle.nigori.specs.Sealing.{key_name};
 ghost use Rattle.key_bag.specs.Bags.{empty_bag, key_named, names_of, HasName, with_key, with_default, IsBag};
 ghost use Rattle.key_bag.specs.Texts.{IsLacked};
@@ -106,6 +106,14 @@ impl KeyBag {
         }
         self.default = Some(name);
         Ok(())
+    }
+
+    /// The name of the default key, if there is one. It takes no memory.
+    pub fn default_name(&self) -> Option<&Octets>
+        ensures name { option_copied result ≡ self.now.default }
+        ensures is_bag { IsBag self.now }
+    {
+        self.default.as_ref()
     }
 
     // The key of a name.

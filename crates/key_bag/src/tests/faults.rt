@@ -50,6 +50,7 @@ fn an_unknown_name_is_no_default(rt: HostRuntime) -> Result<(), Fail> {
     let alloc = rt.alloc();
     let mut bag = named_bag(alloc)?;
     assert!(rt; matches!(bag.seal_default(b"text", &IV), Err(SealFault::NoDefault)));
+    assert!(rt; bag.default_name().is_none());
     let unknown = Octets::from_slice(alloc, b"unknown")?;
     let Err(NoKey { name }) = bag.set_default(unknown) else {
         return Err("the name is unknown".into());

@@ -31,6 +31,10 @@ fn texts_are_sealed_by_default(rt: HostRuntime) -> Result<(), Fail> {
         let Ok(()) = bag.set_default(name.copy()?) else {
             return Err("the key was added".into());
         };
+        let Some(default) = bag.default_name() else {
+            return Err("a default was set".into());
+        };
+        assert_eq!(rt; default.as_slice(), name.as_slice());
         let sealed = bag.seal_default(text, &iv.to_be_bytes())?;
         assert_eq!(rt; sealed.key_name.as_slice(), name.as_slice());
         assert_eq!(rt; sealed.blob.as_slice(), blob);
