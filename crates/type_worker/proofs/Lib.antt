@@ -2,7 +2,6 @@ mod Opened
 mod Batched
 mod Settled
 mod Held
-mod KeyNames
 mod LockLemmas
 mod Drawn
 mod SentLemmas

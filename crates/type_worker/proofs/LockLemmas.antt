@@ -1,15 +1,15 @@
 -- The keys of the locks of offers.
-use Rattle.std.proofs.Common.{◌≡◌, ◌↔◌, ℕ, Bool, true, false, ◌&&◌, ◌||◌, not, if◌then◌else◌, List, [], ◌∷◌, Option, None, Some, IsTrue, is_some, is_none, refl, sym, ap, subst, ◌∙◌}
+use Rattle.std.proofs.Common.{◌≡◌, ◌↔◌, ℕ, Bool, true, false, ◌&&◌, ◌||◌, not, if◌then◌else◌, List, [], ◌∷◌, Option, None, Some, IfSome, IsTrue, is_some, is_none, refl, sym, ap, subst, ◌∙◌}
 use Rattle.std.specs.List.{list_all}
 use Rattle.client_tags.specs.declared.Kind.{Kind}
 use Rattle.client_tags.specs.declared.Kind.TheVariants as kinds
 use Rattle.key_derivation.specs.declared.NigoriKey.{NigoriKey}
-use Rattle.key_bag.specs.Bags.{Bag, key_named, HasName}
+use Rattle.key_bag.specs.Bags.{Bag, IsBag, key_named, HasName}
 use Rattle.sync_model.specs.declared.message.Offer.{Offer}
 use Rattle.sync_model.specs.Values.{is_absent}
 use Rattle.type_worker.specs.Sending.{needs_default, wanted_name, has_lock, have_own_locks, lacks_own_lock, have_locks, is_held_back}
 use Rattle.type_worker.specs.Batches.{Held}
-use Rattle.type_worker.proofs.KeyNames.{tested}
+use Rattle.key_bag.proofs.Names.{tested}
 
 same_truth : {P : Type 0} (test other : Bool) → (IsTrue test ↔ P) → (IsTrue other ↔ P) → test ≡ other
 same_truth true true is too = refl
@@ -32,6 +32,11 @@ not_lacked bag name has = (found_exactly bag name).0 has
 -- a name under which a key is found
 pub has_found : (bag : Bag) (name : List ℕ) (key : NigoriKey) → key_named bag.keys name ≡ Some key → IsTrue (has_lock bag (Some name))
 has_found bag name key found = ap is_some found
+
+-- the bag has the key of its default name
+pub has_default : (bag : Bag) (name : Option (List ℕ)) → IsBag bag → name ≡ bag.default → IsTrue (has_lock bag name)
+has_default bag None is_bag same = refl
+has_default bag (Some name) is_bag same = (found_exactly bag name).1 (subst (λ default. IfSome default (HasName bag)) (sym same) is_bag.default_stands)
 
 -- what is offered of preferences and logins is sealed under the name that is wanted, or not at all
 each_has : (bag : Bag) (name : Option (List ℕ)) (absent : Bool) → IsTrue (has_lock bag name) → IsTrue (has_lock bag (if absent then None else name))

@@ -5,7 +5,7 @@ ghost use Rattle.sync_model.specs.Values.{is_absent};
 ghost use Rattle.type_worker.specs.Sending.{needs_default, wanted_name, has_lock, lacks_own_lock, have_own_locks};
 
 use client_tags::Kind;
-use key_bag::{KeyBag, SealFault};
+use key_bag::KeyBag;
 use sync_model::Offer;
 use sync_specifics::Value;
 use wire_fields::{NoMemory, Octets};
@@ -33,15 +33,14 @@ pub(crate) fn wanted_name(bag: &KeyBag, seals: bool, kind: Kind) -> Result<Optio
     }
 }
 
-// The name of the default key, if there is one: that which stands beside a text that is sealed under it.
+// The name of the default key, if there is one.
 fn default_name(bag: &KeyBag) -> Result<Option<Octets>, NoMemory>
     ensures name { IfOk result (λ name. name ≡ bag.now.default) }
     ensures has { IfOk result (λ name. IsTrue (has_lock bag.now name)) }
 {
-    match bag.seal_default(&[], &[0; 16]) {
-        Ok(sealed) => Ok(Some(sealed.key_name)),
-        Err(SealFault::NoDefault) => Ok(None),
-        Err(SealFault::NoMemory) => Err(NoMemory),
+    match bag.default_name() {
+        None => Ok(None),
+        Some(name) => Ok(Some(name.copy()?)),
     }
 }
 
